@@ -7,7 +7,9 @@ use Rattle.ts_journal.specs.declared.entry.Pending.{Pending}
 use Rattle.ts_journal.specs.State.{State, pending_at, without, generation_at, without_index}
 use Rattle.ts_journal.proofs.Events.{length_without}
 use Rattle.ts_journal.proofs.Keys.{length_without_index}
-use Rattle.ts_group.specs.Context.{needed}
+use Rattle.ts_journal.specs.Log.{Log}
+use Rattle.ts_group.specs.declared.turns.TheConstants.{MOST_NEEDED_AT_END}
+use Rattle.ts_group.specs.Context.{needed, HasEnded}
 
 abbrev turn_of : Bool → ℕ
 turn_of b = if b then 1 else 0
@@ -92,4 +94,12 @@ needed_gave s t h e l g =
     let b = needed_idle t g in
     let d : length t.pending ≡ length s.pending = ap length e in
     let f : length t.live ≡ length s.live = ap length l in
+    omega arith
+
+-- a group that has ended needs as many as destroy its own key and give a turn back
+pub needed_ended : (log : Log) → HasEnded log → needed log.state ≤ MOST_NEEDED_AT_END
+needed_ended log ended =
+    let most = needed_most log.state in
+    let none : length log.state.pending ≡ 0 = ap length ended.pending in
+    let one = ended.left in
     omega arith

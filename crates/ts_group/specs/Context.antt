@@ -1,5 +1,5 @@
 -- What a contract sees of a group's continuations.
-use Rattle.std.specs.Prelude.{⊤, ◌≡◌, ℕ, ◌+◌, ◌-◌, ◌<◌, ◌≤◌, ◌==◌, List, [], ◌∷◌, Option, Some, None, length, if◌then◌else◌, min, unwrap_or}
+use Rattle.std.specs.Prelude.{⊤, ◌≡◌, ℕ, ◌+◌, ◌-◌, ◌<◌, ◌≤◌, ◌==◌, List, [], ◌∷◌, Option, Some, None, length, if◌then◌else◌, min, IsSome, unwrap_or}
 use Rattle.ts_journal.specs.declared.entry.TheConstants.{MOST_KEYS, GREATEST}
 use Rattle.ts_journal.specs.declared.entry.ContKey.{ContKey}
 use Rattle.ts_journal.specs.declared.entry.Pending.{Pending}
@@ -62,6 +62,13 @@ pub record HasSpare (log : Log) (more : ℕ) : Type 0 where
   pub room : needed log.state + more ≤ log.room
   pub set_room : more ≤ log.set_room
   pub key_room : more ≤ log.key_room
+
+-- A group has ended: it made continuations, of which, its own among them, at most one is left, and nothing is
+-- pending. Whatever made one has given the least index away.
+pub record HasEnded (log : Log) : Type 0 where
+  pub pending : log.state.pending ≡ []
+  pub left : length log.state.live ≤ 1
+  pub made : IsSome (generation_at 0 log.state.newest)
 
 -- the journal has room for the entries that are always needed, and the roles are those of the live keys
 pub record IsKept (log : Log) (roles : List Named) : Type 0 where

@@ -54,7 +54,7 @@ impl<W: World + Drop> Group<W> {
         self.cx.begin_turn(turn, seat, moment)
     }
 
-    /// Gives the turn back, and folds a journal that stores `MOST_STORED` entries or more then. It takes no
+    /// Gives the turn back, and folds a journal that stores `MOST_STORED` entries or more then. It cannot lack
     /// memory.
     pub fn give_turn(&mut self)
         requires turn { self.old.cx.log.state.held ≡ true }

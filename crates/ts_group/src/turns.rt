@@ -1,10 +1,10 @@
 //! Turns in a journal: how one begins and how it is given back.
 
-ghost use Rattle.std.specs.Prelude.{◌≡◌, ◌<◌, ◌≤◌, true, false, [], ◌∷◌, ◌++◌, IsTrue, OnOk, OnErr};
+ghost use Rattle.std.specs.Prelude.{◌≡◌, ◌<◌, ◌≤◌, true, false, [], ◌∷◌, ◌++◌, IsTrue, ◌↔◌, OnOk, OnErr};
 ghost use Rattle.ts_journal.specs.declared.entry.Entry.TheVariants as Entry;
 ghost use Rattle.ts_journal.specs.Machine.{after};
 ghost use Rattle.ts_journal.specs.Log.{Extends, GoesOn, IsSameLog, KeepsRoom};
-ghost use Rattle.ts_group.specs.Context.{HasNeeded, needed};
+ghost use Rattle.ts_group.specs.Context.{HasNeeded, HasEnded};
 ghost use Rattle.ts_group.specs.Changes.{CallsStay};
 ghost use Rattle.ts_group.specs.Slot.{stored_of};
 
@@ -68,26 +68,43 @@ fn enter_gave(journal: &mut Journal)
 // The entries that a group needs at most which has ended: one destroys its own key, one gives a turn back.
 const MOST_NEEDED_AT_END: usize = 2;
 
-// Whether a group has ended: it made continuations, of which none is left, and nothing is pending.
+// The places that a turn of a group which has ended asks for, and one more.
+const LEAST_KEPT: usize = 5;
+
+// A group that has ended keeps a place more for each so many entries that it stores.
+const STORED_FOR_ONE: usize = 8;
+
+// Whether a group has ended.
 fn has_ended(journal: &Journal) -> bool
-    ensures { IsTrue result → needed journal.now.state ≤ MOST_NEEDED_AT_END }
+    ensures { IsTrue result ↔ HasEnded journal.now }
 {
     journal.pending().is_empty()
         && journal.live().len() <= 1
         && journal.newest_generation(0).is_some()
 }
 
-// Gives back the memory of a group that has ended, but that of its entries.
+// For how many entries a group that has ended keeps room beside those that it stores. Turns that find it ended
+// so copy what it stores at every so many entries alone, and not each of them.
+fn kept_at_end(stored: usize) -> usize
+    ensures { MOST_NEEDED_AT_END ≤ result }
+{
+    LEAST_KEPT + stored / STORED_FOR_ONE
+}
+
+// Gives back the memory of a group that has ended, but that of its entries. At want of memory for the smaller
+// blocks nothing is given back.
+#[tactic(auto, using(crate::proofs::Room::needed_ended))]
 fn trim_ended(journal: &mut Journal)
     ensures same { IsSameLog journal.old journal.new }
     ensures room { HasNeeded journal.old → HasNeeded journal.new }
 {
     if has_ended(journal) {
-        journal.trim(MOST_NEEDED_AT_END);
+        let kept = kept_at_end(journal.entries().len());
+        let _given_back = journal.trim(kept);
     }
 }
 
-/// Enters that the mutex was given back. It takes no memory.
+/// Enters that the mutex was given back. It cannot lack memory.
 #[tactic(auto, using(crate::proofs::Slots::give_steps, ts_journal::proofs::Folding::goes_on_same))]
 pub fn give_turn(journal: &mut Journal)
     requires turn { journal.old.state.held ≡ true }

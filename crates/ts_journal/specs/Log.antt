@@ -1,5 +1,5 @@
 -- What a contract sees of a journal, and how a journal goes on.
-use Rattle.std.specs.Prelude.{◌≡◌, ℕ, ◌<◌, ◌≤◌, List, [], ◌∷◌, ◌++◌, Option, Some, None}
+use Rattle.std.specs.Prelude.{◌≡◌, ℕ, ◌<◌, ◌≤◌, List, [], ◌∷◌, ◌++◌, Option, Some, None, min}
 use Rattle.ts_journal.specs.declared.entry.Entry.{Entry}
 use Rattle.ts_journal.specs.declared.entry.Entry.TheVariants.{Took, Made, Set}
 use Rattle.ts_journal.specs.declared.entry.Mark.{Mark}
@@ -92,3 +92,10 @@ pub record KeepsRoom (old new : Log) : Type 0 where
   pub room : old.room ≤ new.room
   pub set_room : old.set_room ≤ new.set_room
   pub key_room : old.key_room ≤ new.key_room
+
+-- Memory was given back: of the room for entries a journal keeps so much, if it had it, and for pending events
+-- and for keys it has none until more is reserved.
+pub record IsTrimmed (entries : ℕ) (old new : Log) : Type 0 where
+  pub room : new.room ≡ min entries old.room
+  pub set_room : new.set_room ≡ 0
+  pub key_room : new.key_room ≡ 0

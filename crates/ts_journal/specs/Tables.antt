@@ -1,5 +1,5 @@
 -- The state that tables keep, what can be added to them without memory, and where an event or a key stands.
-use Rattle.std.specs.Prelude.{◌≡◌, ℕ, ◌-◌, ◌<◌, ◌≤◌, List, length, min, remove, slice_get, slice_set}
+use Rattle.std.specs.Prelude.{◌≡◌, ℕ, ◌-◌, ◌<◌, ◌≤◌, List, length, max, min, remove, slice_get, slice_set}
 use Rattle.std.specs.Vec.{vec_capacity}
 use Rattle.ts_journal.specs.declared.tables.Tables.{Tables}
 use Rattle.ts_journal.specs.declared.entry.ContKey.{ContKey}
@@ -58,6 +58,12 @@ pub record KeepsMemory (old new : Tables) : Type 0 where
   pub pending : vec_capacity old.pending ≤ vec_capacity new.pending
   pub live : vec_capacity old.live ≤ vec_capacity new.live
   pub newest : vec_capacity old.newest ≤ vec_capacity new.newest
+
+-- the lists of these tables have room for their own items, or for those of others, and for no more
+pub record IsFitted (others fitted : Tables) : Type 0 where
+  pub pending : vec_capacity fitted.pending ≡ max (length fitted.pending.items) (length others.pending.items)
+  pub live : vec_capacity fitted.live ≡ max (length fitted.live.items) (length others.live.items)
+  pub newest : vec_capacity fitted.newest ≡ max (length fitted.newest.items) (length others.newest.items)
 
 -- the pending event of a number stands at this place
 pub record IsPlaceOf (number : ℕ) (ps : List Pending) (i : ℕ) : Type 0 where

@@ -1,15 +1,15 @@
 //! The journal of a mutex group: its entries, and the state that they lead to.
 
-ghost use Rattle.std.specs.Prelude.{◌≡◌, ◌+◌, ◌<◌, ◌≤◌, [], ◌∷◌, length, min, IfSome, IfOk, OnOk, IsTrue, ◌↔◌};
+ghost use Rattle.std.specs.Prelude.{◌≡◌, ◌+◌, ◌<◌, ◌≤◌, [], ◌∷◌, length, IfSome, IfOk, OnOk, OnErr, IsTrue, ◌↔◌};
 ghost use Rattle.ts_journal.specs.State.{fresh, fresh_with, pending_at, generation_at, IsLive};
 ghost use Rattle.ts_journal.specs.Machine.{Allowed, after, HasLived, IsLawful, IsValid, IsKnown, replay};
-ghost use Rattle.ts_journal.specs.Log.{Extends, Folds, IsSameLog, HasRoom, HasRoomFor, KeepsRoom, new_base, mark_after, set_places, key_places};
+ghost use Rattle.ts_journal.specs.Log.{Extends, Folds, IsSameLog, HasRoom, HasRoomFor, KeepsRoom, IsTrimmed, new_base, mark_after, set_places, key_places};
 ghost use Rattle.ts_journal.specs.Tally.{counts_of};
 
 use crate::entry::{ContKey, Counts, Entry, MOST_KEYS, Mark, NoMemory, Pending};
-use crate::room::reserve_least;
+use crate::room::{reserve_least, shrink_moved};
 use crate::tables::{
-    Tables, apply_over, event_at, fold_into, generation_of, reserve_over, trim_over,
+    Tables, apply_over, event_at, fitted_over, fold_into, generation_of, reserve_over,
 };
 use std::alloc::Global;
 use std::marker::Model;
@@ -137,15 +137,19 @@ impl Journal {
         self.entries.clear();
     }
 
-    /// Gives back memory of the journal and its base, and keeps room for so many entries of those for which
-    /// there was room.
-    pub fn trim(&mut self, entries: usize)
+    /// Gives back the memory of the journal and its base but for what it holds and for so many entries more.
+    /// At want of memory for the smaller blocks it is as it was.
+    pub fn trim(&mut self, entries: usize) -> Result<(), NoMemory>
         ensures same { IsSameLog self.old self.new }
-        ensures room { min entries self.old.room ≤ self.new.room }
+        ensures ok { OnOk result (IsTrimmed entries self.old self.new) }
+        ensures err { OnErr result (self.new ≡ self.old) }
     {
-        let wanted = self.entries.len().saturating_add(entries);
-        self.entries.shrink_to(wanted);
-        trim_over(&mut self.base, &mut self.tables);
+        let places = self.entries.len().saturating_add(entries);
+        let (base, tables) = fitted_over(&self.base, &self.tables)?;
+        shrink_moved(&mut self.entries, places)?;
+        self.base = base;
+        self.tables = tables;
+        Ok(())
     }
 
     /// The entries since the base, in order. Each was allowed where it stands.

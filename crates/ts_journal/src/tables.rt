@@ -4,13 +4,13 @@ ghost use Rattle.std.specs.Prelude.{◌≡◌, ℕ, ◌+◌, ◌<◌, ◌≤◌,
 ghost use Rattle.ts_journal.specs.State.{State, fresh, fresh_with, pending_at, without, generation_at, without_index, with_key, latest_of};
 ghost use Rattle.ts_journal.specs.Machine.{Allowed, after, IsValid};
 ghost use Rattle.ts_journal.specs.Log.{set_places, key_places};
-ghost use Rattle.ts_journal.specs.Tables.{CanHold, HasPlaces, KeepsMemory, state_in, set_room_of, key_room_of, set_room_over, key_room_over, IsPlaceOf, IsPlaceAt, entry_of};
+ghost use Rattle.ts_journal.specs.Tables.{CanHold, HasPlaces, KeepsMemory, IsFitted, state_in, set_room_of, key_room_of, set_room_over, key_room_over, IsPlaceOf, IsPlaceAt, entry_of};
 ghost use Rattle.std.specs.Vec.{vec_capacity};
 ghost use Rattle.ts_journal.specs.declared.entry.ContKey.{ContKey as Key};
 ghost use Rattle.ts_journal.specs.declared.entry.Entry.TheVariants as Entry;
 
 use crate::entry::{ContKey, Entry, GREATEST, Latest, NoMemory, Pending};
-use crate::room::reserve_moved;
+use crate::room::{moved, reserve_moved};
 use std::alloc::Global;
 
 /// The parts of a state.
@@ -137,19 +137,17 @@ pub fn reserve_over(base: &mut Tables, tables: &mut Tables, places: usize) -> Re
     reserve_like(&mut base.newest, &tables.newest)
 }
 
-/// Gives back the memory of tables, and of a base that can hold them, which none of their items takes.
-pub fn trim_over(base: &mut Tables, tables: &mut Tables)
-    requires hold { CanHold base.old tables.old }
-    ensures base { state_in base.new ≡ state_in base.old }
-    ensures tables { state_in tables.new ≡ state_in tables.old }
-    ensures hold { CanHold base.new tables.new }
+/// The same tables and a base that can hold them, neither with room for more.
+pub fn fitted_over(base: &Tables, tables: &Tables) -> Result<(Tables, Tables), NoMemory>
+    ensures base { IfOk result (λ fitted. state_in fitted.0 ≡ state_in base.now) }
+    ensures tables { IfOk result (λ fitted. state_in fitted.1 ≡ state_in tables.now) }
+    ensures hold { IfOk result (λ fitted. CanHold fitted.0 fitted.1) }
+    ensures set_room { IfOk result (λ fitted. set_room_over fitted.0 fitted.1 ≡ 0) }
+    ensures key_room { IfOk result (λ fitted. key_room_over fitted.0 fitted.1 ≡ 0) }
 {
-    base.pending.shrink_to(tables.pending.len());
-    base.live.shrink_to(tables.live.len());
-    base.newest.shrink_to(tables.newest.len());
-    tables.pending.shrink_to_fit();
-    tables.live.shrink_to_fit();
-    tables.newest.shrink_to_fit();
+    let fitted_base = base.fitted(tables)?;
+    let fitted_tables = tables.fitted(tables)?;
+    Ok((fitted_base, fitted_tables))
 }
 
 /// Does what an entry says, in tables that a base can hold then too.
@@ -228,6 +226,26 @@ impl Tables {
             handled_count: 0,
             cancelled_count: 0,
             dropped_count: 0,
+        })
+    }
+
+    // The same tables, with room for their own items, or for those of others, and for no more.
+    fn fitted(&self, others: &Tables) -> Result<Tables, NoMemory>
+        ensures state { IfOk result (λ t. state_in t ≡ state_in self.now) }
+        ensures places { IfOk result (λ t. IsFitted others.now t) }
+    {
+        Ok(Tables {
+            turns: self.turns,
+            held: self.held,
+            next: self.next,
+            pending: moved(&self.pending, self.pending.len().max(others.pending.len()))?,
+            latest: self.latest,
+            live: moved(&self.live, self.live.len().max(others.live.len()))?,
+            newest: moved(&self.newest, self.newest.len().max(others.newest.len()))?,
+            set_count: self.set_count,
+            handled_count: self.handled_count,
+            cancelled_count: self.cancelled_count,
+            dropped_count: self.dropped_count,
         })
     }
 
