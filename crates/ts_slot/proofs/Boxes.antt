@@ -1,10 +1,8 @@
 -- What is said of values in their order, said of the boxes in which they stand.
-use Rattle.std.proofs.Common.{◌≡◌, ℕ, zero, suc, ◌+◌, List, [], ◌∷◌, map, refl, sym, ap, ◌∙◌, subst}
+use Rattle.std.proofs.Common.{◌≡◌, ℕ, ◌+◌, List, [], ◌∷◌, map, refl, sym, ap, ◌∙◌, subst}
 use Rattle.std.specs.Prelude.{box_value}
 use Rattle.std.specs.Global.{Box}
 use Rattle.std.specs.List.{AllZip}
-use mathlib.Core.Option.{some, some-injective, some-ne-none}
-use lib.ListN.{get_elem?}
 use Rattle.ts_slot.specs.Boxed.{in_box, fits_in_box}
 use Rattle.ts_slot.specs.Lists.{Each}
 use Rattle.ts_slot.specs.Views.{firsts}
@@ -42,10 +40,3 @@ module _ {X : Type 0} where
       → boxes' ≡ boxes → map box_value boxes ≡ xs → firsts (in_box trace) 0 boxes' ≡ firsts trace 0 xs
   firsts_of_values trace boxes boxes' xs same are = ap (λ bs. firsts (in_box trace) 0 bs) same ∙
       firsts_in_boxes trace 0 boxes ∙ ap (λ ys. firsts trace 0 ys) are
-
-  -- a value at a place stood in the box of that place
-  pub box_at : (boxes : List (Box X)) (k : ℕ) (x : X) → get_elem? (map box_value boxes) k ≡ some x
-      → (box : Box X) × (get_elem? boxes k ≡ some box) × (box.value ≡ x)
-  box_at [] k x at = absurd (some-ne-none x (sym at))
-  box_at (b ∷ bs) zero x at = (b, refl, some-injective b.value x at)
-  box_at (b ∷ bs) (suc k) x at = box_at bs k x at

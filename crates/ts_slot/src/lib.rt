@@ -10,6 +10,6 @@ mod slots;
 mod view;
 
 pub use seat::{Left, Missed, Seat, Turn};
-pub use slots::Slots;
+pub use slots::{NotClosed, Slots};
 pub use ts_journal::{NoMemory, Slotted};
 pub use view::SeatView;

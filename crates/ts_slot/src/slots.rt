@@ -1,7 +1,8 @@
 //! The slots: how groups are entered and left, and how seats are split and joined.
 
-ghost use Rattle.std.specs.Prelude.{◌≡◌, ℕ, ◌<◌, ◌≤◌, [], length, map, Some, IfOk, vec_capacity, box_value};
+ghost use Rattle.std.specs.Prelude.{◌≡◌, ℕ, ◌<◌, ◌≤◌, [], length, map, Some, IfOk, IfErr, vec_capacity, box_value};
 ghost use Rattle.std.specs.Mem.Slots.{IsFull, slots_items, slots_len};
+ghost use Rattle.ts_slot.specs.Boxed.{unboxed};
 ghost use Rattle.ts_slot.specs.Limits.{most_groups};
 ghost use Rattle.ts_slot.specs.Lists.{HasValue};
 
@@ -27,6 +28,13 @@ pub struct Slots<V: Slotted> {
     ghost few: { (0 < groups) × (groups ≤ most_groups) },
 }
 
+/// Slots that were not closed, for want of memory, and the seat with which they can be.
+#[derive(Drop)]
+pub struct NotClosed<V: Slotted> {
+    pub slots: Slots<V>,
+    pub seat: Seat<V>,
+}
+
 // Each value in a box of its own, so that it need not be moved to enter its group and to leave it.
 fn put_into_boxes<V: Drop>(alloc: Global, values: Vec<V>) -> Result<Vec<Box<V>>, AllocError>
     ensures { IfOk result (λ boxes. map box_value boxes.items ≡ values.items) }
@@ -36,17 +44,6 @@ fn put_into_boxes<V: Drop>(alloc: Global, values: Vec<V>) -> Result<Vec<Box<V>>,
         boxes.push(Box::new(alloc, value)?)?;
     }
     Ok(boxes)
-}
-
-// The values of boxes.
-fn take_from_boxes<V: Drop>(boxes: Vec<Box<V>>, mut values: Vec<V>) -> Result<Vec<V>, AllocError>
-    requires none { values.items ≡ [] }
-    ensures { IfOk result (λ xs. xs.items ≡ map box_value boxes.items) }
-{
-    for boxed in boxes {
-        values.push(Box::into_inner(boxed))?;
-    }
-    Ok(values)
 }
 
 // Each value in a place of its own.
@@ -60,22 +57,20 @@ fn placed<V: Drop>(alloc: Global, values: Vec<V>) -> Result<Vec<Option<V>>, Allo
     Ok(places)
 }
 
-// The values that stand in the slots, where each has one.
-fn unload<V: Drop>(mut closed: Closed<Option<V>, Global>, mut values: Vec<V>) -> Vec<V>
+// The values whose boxes stand in the slots, where each has one.
+fn unload<V: Drop>(mut closed: Closed<Option<Box<V>>, Global>, mut values: Vec<V>) -> Vec<V>
     requires full { IsFull closed.slots }
     requires each { (k : ℕ) → k < slots_len closed.slots → HasValue (slots_items closed.slots) k }
     requires room { (values.items ≡ []) × (slots_len closed.slots ≤ vec_capacity values) }
-    ensures { map Some result.items ≡ slots_items closed.slots }
+    ensures { map Some result.items ≡ map unboxed (slots_items closed.slots) }
 {
     let count = closed.slot_count();
     let mut k = 0;
     while k < count {
-        let Some(value) = closed.take(k) else {
+        let Some(boxed) = closed.take(k) else {
             unreachable!()
         };
-        let Ok(()) = values.push(value) else {
-            unreachable!()
-        };
+        values.push_reserved(Box::into_inner(boxed));
         k += 1;
     }
     closed.free();
@@ -125,26 +120,26 @@ where
         Ok((slots, seat))
     }
 
-    /// Gives the values in the order of their groups. Every other seat was joined, and no turn is out.
-    pub fn close(self, alloc: Global, seat: Seat<V>) -> Result<Vec<V>, NoMemory>
+    /// Gives the values in the order of their groups. Every other seat was joined, and no turn is out. Their
+    /// room is taken first: where it cannot be had, slots and seat come back as they were.
+    pub fn close(self, alloc: Global, seat: Seat<V>) -> Result<Vec<V>, NotClosed<V>>
         requires seat { IsSeatOf self seat }
         requires share { (view seat).share ≡ whole_share }
         requires idle { (view seat).held ≡ [] }
         ensures count { IfOk result (λ xs. length xs.items ≡ length (tags_of self)) }
         ensures values { IfOk result (λ xs. AreLast self seat xs.items) }
+        ensures err { IfErr result (λ left. (left.slots ≡ self) × (left.seat ≡ seat)) }
     {
-        let groups = self.groups as usize;
-        let values = Vec::with_capacity(alloc, groups)?;
-        let boxes = Vec::with_capacity(alloc, groups)?;
+        let Ok(values) = Vec::with_capacity(alloc, self.groups as usize) else {
+            return Err(NotClosed { slots: self, seat });
+        };
         let Slots { table, groups: _ } = self;
         let closed = table.close_with(seat.place);
-        let boxes = unload(closed, boxes);
-        Ok(take_from_boxes(boxes, values)?)
+        Ok(unload(closed, values))
     }
 }
 
 impl<V: Slotted> Slots<V> {
-    ghost use Rattle.std.specs.Prelude.{IfErr};
     ghost use Rattle.ts_slot.specs.declared.seat.Left.TheVariants.{Freed, Worn};
     ghost use Rattle.ts_slot.specs.Views.{won, left_half, right_half, joined, Coherent, KnowsLater, IsAfter};
     ghost use Rattle.ts_slot.specs.Words.{tags_of, view, IsSeatOf, FitsTag, HoldsNot, Misses, IsHeld, MayLeave, MarksOwn, LeavesFree, LeavesWorn, GivesUp};

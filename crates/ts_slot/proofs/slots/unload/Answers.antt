@@ -1,5 +1,5 @@
 -- Each slot has a value, which is taken out once.
-use Rattle.std.proofs.Common.{◌+◌, ◌∷◌, [], map, take, set, length, length-append, sym, ap, ◌∙◌, arith}
+use Rattle.std.proofs.Common.{◌+◌, ◌∷◌, ◌++◌, [], map, take, set, length, length-append, sym, ap, ◌∙◌, arith}
 use Rattle.std.specs.Prelude.{slice_index_or, false}
 use Rattle.std.specs.Mem.Slots.{slots_items, slots_filled, slots_counts}
 use Rattle.std.proofs.lemmas.List.{get_or-set_same, get_or-set_other}
@@ -7,6 +7,8 @@ use mathlib.Core.Logic.{dite}
 use native.Mathlib.Decide.{ℕ_discrete}
 use lib.ListN.{get_elem?}
 use Rattle.std.specs.Prelude.{Some}
+use Rattle.atomic_table.proofs.Lists.{at_map}
+use Rattle.ts_slot.specs.Boxed.{unboxed}
 use Rattle.ts_slot.proofs.Ends.{taken_more, not_empty}
 use Rattle.ts_slot.proofs.slots.unload.Goals as goal
 
@@ -20,7 +22,8 @@ pub loop-k-preserved : goal.loop-k-preserved
 loop-k-preserved g c =
     let was = c.loop-k.invariant in
     let took = c.in-Some.ensures in
-    let put = c.in-Ok.ensures in
+    let put = c.push_reserved.ensures in
+    let slots = slots_items c.loop-k.closed.slots in
     let k = c.loop-k.k in
     let filled = slots_filled c.loop-k.closed.slots in
     let counts = slots_counts c.loop-k.closed.slots in
@@ -28,10 +31,11 @@ loop-k-preserved g c =
       within = omega arith;
       count = was.count ∙ sym took.others.2;
       items = took.others.0 ∙ was.items;
-      values = ap (λ xs. map Some xs) put.items ∙ taken_more c.loop-k.values.items
-          (slots_items c.loop-k.closed.slots) k c.in-Some.value was.values took.value ∙ ap
-          (λ l. take (k + 1) l) (sym took.others.0);
-      length = ap length put.items ∙ length-append c.loop-k.values.items (c.in-Some.value ∷ []) ∙ ap
+      values = ap (λ xs. map Some xs) (put.items ∙ ap (λ x. c.loop-k.values.items ++ x ∷ [])
+          c.into_inner.ensures) ∙ taken_more c.loop-k.values.items (map unboxed slots) k c.in-Some.boxed.value
+          was.values (at_map unboxed slots k (Some c.in-Some.boxed) took.value) ∙ ap
+          (λ l. take (k + 1) (map unboxed l)) (sym took.others.0);
+      length = ap length put.items ∙ length-append c.loop-k.values.items (c.into_inner.result ∷ []) ∙ ap
           (λ n. n + 1) was.length;
       room = let r = was.room in let s = put.capacity in let o = took.others.2 in omega arith;
       left = λ j after low. ap (λ l. slice_index_or l j false) took.others.1 ∙ get_or-set_other filled k j

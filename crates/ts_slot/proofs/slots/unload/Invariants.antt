@@ -2,6 +2,7 @@
 use Rattle.std.proofs.Common.{◌≡◌, ◌≤◌, ◌<◌, ◌-◌, ℕ, map, take, length}
 use Rattle.std.specs.Prelude.{Some, slice_index_or, true, false, vec_capacity}
 use Rattle.std.specs.Mem.Slots.{slots_items, slots_filled, slots_len}
+use Rattle.ts_slot.specs.Boxed.{unboxed}
 use Rattle.ts_slot.proofs.slots.unload.Given as goal
 
 abbrev pub invariant-loop-k : goal.invariant-loop-k
@@ -9,7 +10,7 @@ invariant-loop-k g l = record {
   within : l.k ≤ l.count;
   count : l.count ≡ slots_len l.closed.slots;
   items : slots_items l.closed.slots ≡ slots_items l.initial.closed.slots;
-  values : map Some l.values.items ≡ take l.k (slots_items l.closed.slots);
+  values : map Some l.values.items ≡ take l.k (map unboxed (slots_items l.closed.slots));
   length : length l.values.items ≡ l.k;
   room : slots_len l.closed.slots ≤ vec_capacity l.values;
   left : (j : ℕ) → l.k ≤ j → j < slots_len l.closed.slots
