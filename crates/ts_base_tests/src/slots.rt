@@ -81,7 +81,9 @@ fn close(rt: &(impl AllocGlobal + Abort), slots: Slots<Rising>, seat: Seat<Risin
     requires seat { IsSeatOf slots seat × ((view seat).held ≡ []) }
     requires share { (view seat).share ≡ whole_share }
 {
-    let values = slots.close(rt.alloc(), seat).expect(rt, MEMORY);
+    let Ok(values) = slots.close(rt.alloc(), seat) else {
+        panic!(rt; "{MEMORY}")
+    };
     values.first().map(|value| value.0)
 }
 
