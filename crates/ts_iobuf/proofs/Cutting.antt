@@ -152,6 +152,13 @@ pub full-more : (xs : List (List ℕ)) (b : List ℕ) → AreFull xs → AreFull
 full-more xs b h = full-append xs (one_block b) h
     (All-from_recursion (λ b. 0 < length b) (one_block b) (full-one b))
 
+-- full blocks without bytes are none
+pub no-blocks : (xs : List (List ℕ)) → AreFull xs → joined xs ≡ [] → xs ≡ []
+no-blocks [] full none = refl
+no-blocks (x ∷ xs) full none =
+    let some : 0 < length x = full 0 [] (omega arith) in
+    absurd (omega (arith, some, ap length none, length-append x (joined xs)))
+
 -- of a part of blocks that was taken up to this one, what is left once the part of this one is taken too
 pub blocks-step : (xs : List (List ℕ)) (front b part got got' all : List ℕ) (i most at at' : ℕ)
     → i < length xs → b ≡ get_or xs i b → part ≡ take most (drop at b) → got' ≡ got ++ part

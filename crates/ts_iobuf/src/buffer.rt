@@ -221,6 +221,20 @@ impl IoBuffer {
         }
     }
 
+    /// Where no byte stands in the buffer, gives the memory of its blocks back, and with it the room that was
+    /// lent last. Its readers stay, and it takes no memory.
+    pub fn give_back(&mut self)
+        ensures rest { self.new ≡ record self.old { room = self.new.room } }
+        ensures empty { self.old.bytes ≡ [] → self.new.room ≡ [] }
+        ensures filled { self.old.bytes ≢ [] → self.new ≡ self.old }
+    {
+        if self.store.len() > 0 {
+            return;
+        }
+        self.store.give_back();
+        self.room = 0;
+    }
+
     /// How many bytes a reader is to have before it is `ready`.
     pub fn water_mark(&self) -> usize
         ensures { result ≡ self.now.mark }

@@ -288,6 +288,15 @@ impl Store {
         self.filled = 0;
     }
 
+    /// Gives the memory of all blocks back, where no bytes are held, and with it the free bytes. It takes no
+    /// memory.
+    pub fn give_back(&mut self)
+        requires { joined self.old.blocks ≡ [] }
+        ensures { self.new ≡ record self.old { behind = [] } }
+    {
+        *self = Store::new(self.alloc);
+    }
+
     /// Sees to it that some bytes are free, in a new block where the one in filling has none left. Answers
     /// how many are.
     pub fn make_room(&mut self) -> Result<usize, NoMemory>

@@ -96,4 +96,11 @@ impl Waiting {
     {
         self.buffer.consume(self.reader, n);
     }
+
+    /// Gives the memory of what the bytes stand in back, where none does. It takes no memory.
+    pub fn give_back(&mut self)
+        ensures { self.new ≡ self.old }
+    {
+        self.buffer.give_back();
+    }
 }
