@@ -1,5 +1,5 @@
 //! The buffer and its calls, but `space`.
-ghost use Rattle.std.specs.Prelude.{◌≡◌, ◌≢◌, ◌+◌, ◌-◌, ◌<◌, ◌≤◌, ◌++◌, [], length, take, drop, flat_map, slice_get, IsTrue, All, IfOk, OnOk, OnErr, MatchOption, Some, ◌↔◌};
+ghost use Rattle.std.specs.Prelude.{◌≡◌, ◌≢◌, ◌+◌, ◌-◌, ◌<◌, ◌≤◌, ◌++◌, [], length, take, drop, flat_map, slice_get, IsTrue, All, IfOk, IsOk, OnOk, OnErr, MatchOption, Some, ◌↔◌};
 ghost use Rattle.std.specs.Option.{option_copied};
 
 mod space;
@@ -180,7 +180,8 @@ impl IoBuffer {
     }
 
     /// Adds what the reader of another buffer can read from `offset` on, or the first `most` bytes of that
-    /// where there are more: full blocks are shared, not copied. Answers how many bytes these are. (The
+    /// where there are more: full blocks are shared, not copied. Answers how many bytes these are. Where
+    /// there are none, it takes no memory, and does no more than to end the loan of the room. (The
     /// Developer's Guide: `TSIOBufferCopy`.)
     pub fn copy_from(
         &mut self,
@@ -193,6 +194,8 @@ impl IoBuffer {
         ensures count { IfOk result (λ n. n ≡ length (part_of from.now reader offset most)) }
         ensures grows { OnOk result (GrowsBy self.old self.new (part_of from.now reader offset most)) }
         ensures room { OnOk result (self.new.room ≡ []) }
+        ensures none { part_of from.now reader offset most ≡ [] →
+            IsOk result × (self.new ≡ record self.old { room = [] }) }
         ensures err { OnErr result (self.new ≡ self.old) }
     {
         let Some(place) = place_of(from.slots.as_slice(), reader) else {

@@ -4,7 +4,7 @@ ghost use Rattle.std.specs.Bool.{OnTrue, OnFalse};
 ghost use Rattle.std.specs.Vec.{vec_len, vec_capacity};
 ghost use Rattle.std.specs.VecDeque.{deque_capacity, deque_len};
 ghost use Rattle.ts_iobuf.specs.Buffer.{one_block};
-ghost use Rattle.ts_iobuf.specs.Stored.{stored};
+ghost use Rattle.ts_iobuf.specs.Stored.{room_after, stored};
 
 use bytes::Bytes;
 use std::alloc::Global;
@@ -99,7 +99,8 @@ pub fn block_of(alloc: Global, room: usize, parts: &[&[u8]]) -> Result<Vec<u8>, 
 /// to block, so that what is short takes little memory, and what is long few reads.
 pub fn next_room(room: usize, least: usize) -> usize
     requires { least ≤ MOST_ROOM }
-    ensures { (least ≤ result) × (result ≤ MOST_ROOM) }
+    ensures doubles { result ≡ room_after room least }
+    ensures bounds { (least ≤ result) × (result ≤ MOST_ROOM) }
 {
     room.saturating_mul(2).max(least).min(MOST_ROOM)
 }

@@ -1,5 +1,5 @@
 //! The bytes of a buffer: full blocks, shared or not, and one block in filling behind them.
-ghost use Rattle.std.specs.Prelude.{◌≡◌, [], ◌+◌, ◌-◌, ◌<◌, ◌≤◌, ◌++◌, length, take, drop, flat_map, slice_get, OnOk, OnErr, IfOk};
+ghost use Rattle.std.specs.Prelude.{◌≡◌, [], ◌+◌, ◌-◌, ◌<◌, ◌≤◌, ◌++◌, length, take, drop, flat_map, slice_get, IsOk, OnOk, OnErr, IfOk};
 ghost use Rattle.std.specs.Option.{option_copied};
 ghost use Rattle.std.specs.Vec.{vec_len};
 
@@ -236,15 +236,21 @@ impl Store {
     }
 
     /// Adds the bytes of another store from `at` on, or the first `most` of that where there are more.
-    /// Answers how many these are. What begins in the other's block in filling is copied as a write is.
+    /// Answers how many these are. What begins in the other's block in filling is copied as a write is; where
+    /// there are none, nothing is done.
     pub fn copy_from(&mut self, from: &Store, at: usize, most: usize) -> Result<usize, NoMemory>
         ensures count { IfOk result (λ n. n ≡ length (take most (drop at (joined from.now.blocks)))) }
         ensures ok { OnOk result (joined self.new.blocks
             ≡ joined self.old.blocks ++ take most (drop at (joined from.now.blocks))) }
+        ensures none { take most (drop at (joined from.now.blocks)) ≡ [] →
+            IsOk result × (self.new ≡ self.old) }
         ensures err { OnErr result (self.new ≡ self.old) }
     {
+        let count = from.len().saturating_sub(at).min(most);
+        if count == 0 {
+            return Ok(0);
+        }
         if at < from.full {
-            let count = from.len().saturating_sub(at).min(most);
             self.share_from(from, at, count)?;
             return Ok(count);
         }
