@@ -76,8 +76,9 @@ fn take_some<R: Wait>(rt: &R, queue: &EventQueue, mut pass: QueuePass) -> (Queue
     (pass, sum)
 }
 
-// One thread puts while another takes, and then all that is left is taken.
-fn exchange<R: Threads + Wait + Sync>(
+// One thread puts while another takes, and then their passes are joined. The sum is that of the numbers of
+// the tokens that were taken.
+fn put_and_take<R: Threads + Wait + Sync>(
     rt: &R,
     queue: &EventQueue,
     putter: QueuePass,
@@ -85,11 +86,10 @@ fn exchange<R: Threads + Wait + Sync>(
 ) -> (QueuePass, u64)
     requires passes { IsPassOf queue.now putter × IsPassOf queue.now taker }
     requires serial { (pass_view putter).serial ≡ 0 }
-    requires shares { (pass_view putter).share + (pass_view taker).share ≡ WHOLE_SHARE }
     ensures pass { IsPassOf queue.now result.0 }
-    ensures all { Exactly (pass_view result.0).put (pass_view result.0).taken }
+    ensures share { (pass_view result.0).share ≡ (pass_view putter).share + (pass_view taker).share }
 {
-    let (mut pass, (taker, first)) = thread::join(
+    let (mut pass, (taker, sum)) = thread::join(
         rt,
         move || -> QueuePass
             requires { IsPassOf queue.now putter × ((pass_view putter).serial ≡ 0) }
@@ -103,6 +103,23 @@ fn exchange<R: Threads + Wait + Sync>(
         { take_some(rt, queue, taker) },
     );
     queue.join(&mut pass, taker);
+    (pass, sum)
+}
+
+// One thread puts while another takes, and then all that is left is taken.
+fn exchange<R: Threads + Wait + Sync>(
+    rt: &R,
+    queue: &EventQueue,
+    putter: QueuePass,
+    taker: QueuePass,
+) -> (QueuePass, u64)
+    requires passes { IsPassOf queue.now putter × IsPassOf queue.now taker }
+    requires serial { (pass_view putter).serial ≡ 0 }
+    requires shares { (pass_view putter).share + (pass_view taker).share ≡ WHOLE_SHARE }
+    ensures pass { IsPassOf queue.now result.0 }
+    ensures all { Exactly (pass_view result.0).put (pass_view result.0).taken }
+{
+    let (mut pass, first) = put_and_take(rt, queue, putter, taker);
     let mut sum = first;
     'rest: for _ in rt.forever() {
         match queue.take(rt, &mut pass) {
