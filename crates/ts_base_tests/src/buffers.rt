@@ -160,6 +160,49 @@ fn a_buffer_that_was_read_to_its_end_goes_on(rt: HostRuntime) {
     }
 }
 
+// Fills the room of the next block, which has so many bytes.
+fn fill_room(rt: &(impl AllocGlobal + Abort), buffer: &mut IoBuffer, length: usize) {
+    let room = buffer.space();
+    assert!(rt; room.len() == length);
+    buffer.produce(length);
+}
+
+// Rooms double from block to block, and begin anew once the memory of the blocks was given back. A buffer
+// that holds bytes keeps them.
+#[test]
+fn an_empty_buffer_gives_its_blocks_back(rt: HostRuntime) {
+    let mut buffer = IoBuffer::new(rt.alloc()).expect(&rt, MEMORY);
+    let r = buffer.reader().expect(&rt, MEMORY);
+    fill_room(&rt, &mut buffer, 4_096);
+    fill_room(&rt, &mut buffer, 8_192);
+    buffer.give_back();
+    assert!(rt; buffer.is_reader(r));
+    assert!(rt; buffer.avail(r) == 12_288);
+    buffer.consume(r, 12_288);
+    fill_room(&rt, &mut buffer, 16_384);
+    assert!(rt; buffer.is_reader(r));
+    assert!(rt; buffer.avail(r) == 16_384);
+    buffer.consume(r, 16_384);
+    buffer.give_back();
+    fill_room(&rt, &mut buffer, 4_096);
+    assert!(rt; buffer.is_reader(r));
+    assert!(rt; buffer.avail(r) == 4_096);
+}
+
+#[test]
+fn bytes_that_wait_stay_when_memory_is_given_back(rt: HostRuntime) {
+    let mut waiting = Waiting::new(rt.alloc()).expect(&rt, MEMORY);
+    waiting.write(b"ab").expect(&rt, MEMORY);
+    waiting.give_back();
+    assert!(rt; waiting.block() == Some(b"ab".as_slice()));
+    let all = waiting.len();
+    waiting.take(all);
+    waiting.give_back();
+    assert!(rt; waiting.is_empty());
+    waiting.write(b"c").expect(&rt, MEMORY);
+    assert!(rt; waiting.block() == Some(b"c".as_slice()));
+}
+
 #[test]
 fn a_reader_is_ready_at_the_water_mark(rt: HostRuntime) {
     let mut buffer = IoBuffer::new(rt.alloc()).expect(&rt, MEMORY);
