@@ -6,31 +6,17 @@ ghost use Rattle.ts_phases.specs.View.{GoesIf, PairIf, refuses_if, side, side_if
 ghost use Rattle.ts_phases.specs.Moving.{MovesBoth, QueuesOn, SideReads, SideWrites};
 
 use crate::parts::Peer;
-use std::alloc::Global;
-use ts_iobuf::Waiting;
 use ts_link::{Link, NoMemory};
 use ts_upstream::{Uploaded, Upstream};
 use ts_vconn::{Pulled, Pushed, pull_waiting, push_waiting};
 
-// Gives back the memory that bytes were read into or written from, where none waits any more.
-fn give_back_empty(alloc: Global, bytes: &mut Waiting)
-    ensures { bytes.new ≡ bytes.old }
-{
-    if !bytes.is_empty() {
-        return;
-    }
-    if let Ok(fresh) = Waiting::new(alloc) {
-        *bytes = fresh;
-    }
-}
-
 impl<L: Link> Peer<L> {
-    /// Gives back the memory of what was read and written, but of the bytes that wait.
-    pub(crate) fn give_back(&mut self, alloc: Global)
+    /// Gives back the memory of what was read and written, but of the bytes that wait. It takes no memory.
+    pub(crate) fn give_back(&mut self)
         ensures { self.new ≡ self.old }
     {
-        give_back_empty(alloc, &mut self.inbox);
-        give_back_empty(alloc, &mut self.outbox);
+        self.inbox.give_back();
+        self.outbox.give_back();
     }
 
     /// Makes one read of the link, of at most so many bytes.
@@ -56,11 +42,11 @@ impl<L: Link> Peer<L> {
 }
 
 /// Gives back such memory of the origin's side: none, where there is no origin.
-pub(crate) fn give_back_origin<L: Link>(alloc: Global, origin: &mut Option<Peer<L>>)
+pub(crate) fn give_back_origin<L: Link>(origin: &mut Option<Peer<L>>)
     ensures { origin.new ≡ origin.old }
 {
     if let Some(peer) = origin {
-        peer.give_back(alloc);
+        peer.give_back();
     }
 }
 

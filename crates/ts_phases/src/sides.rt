@@ -120,7 +120,7 @@ impl<C: Link, O: Upstream<C>> Core<C, O> {
     pub(crate) fn give_back(&mut self)
         ensures { self.new ≡ self.old }
     {
-        self.client.give_back(self.alloc);
-        give_back_origin(self.alloc, &mut self.origin);
+        self.client.give_back();
+        give_back_origin(&mut self.origin);
     }
 }
