@@ -6,10 +6,10 @@ use Rattle.ts_link.specs.Counts.{Counted, Rose}
 use Rattle.ts_link.specs.Link.{Look, MayReplace}
 use Rattle.ts_link.specs.declared.octets.NoMemory.{NoMemory}
 use Rattle.ts_vconn.specs.declared.moves.Pulled.{Pulled}
-use Rattle.ts_vconn.specs.declared.moves.Pulled.TheVariants as L
 use Rattle.ts_vconn.specs.declared.moves.Pushed.{Pushed}
 use Rattle.ts_vconn.specs.Moves.{PullsOn}
-use Rattle.ts_vconn.specs.MoveAnswers.{Came, pull_failed, push_failed}
+use Rattle.ts_vconn.specs.MoveAnswers.{pull_failed, push_failed}
+use Rattle.ts_vconn.proofs.Bounds.{came_few}
 use Rattle.ts_phases.specs.View.{HasCount, HasFailed, LinkSide}
 use Rattle.ts_phases.specs.Moving.{SideReads, SideWrites}
 use Rattle.ts_phases.specs.Facts.{Quiet}
@@ -50,10 +50,6 @@ write_failed t s r p is writes kept =
     (failed s.base s.look.faults r.look.faults rose kept)
 
 -- no more waits than one read brings behind what waited
-pub came_few : (p : Pulled) (most : ℕ) (more : List ℕ) → Came p most more → length more ≤ most
-came_few (L.Some n) most more (len, some, few) = omega (arith, len, few)
-came_few _ most more none = let no : length more ≡ 0 = ap length none in omega (arith, no)
-
 pub few_pulled : (t : Bool) (c d : Look) (before after : List ℕ) (most : ℕ) (r : Result Pulled NoMemory)
     → IfOk r (λ p. PullsOn t c d before after p most)
     → IfOk r (λ p. length after ≤ length before + most)

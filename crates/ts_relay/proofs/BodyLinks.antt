@@ -1,5 +1,5 @@
 -- The steps of a body, and what they do with the two links: which of them is called, and which counts rise.
-use Rattle.std.proofs.Common.{◌≡◌, ℕ, zero, suc, ◌+◌, ◌≤◌, inl, inr, List, [], ◌∷◌, ◌++◌, Bool, true, false, Option, Result, Err, length, length-append, drop, refl, sym, ap, subst, ◌∙◌, arith}
+use Rattle.std.proofs.Common.{◌≡◌, ℕ, ◌+◌, ◌≤◌, inl, inr, List, [], ◌++◌, Bool, true, false, Option, Result, Err, length, length-append, drop, refl, sym, ap, subst, ◌∙◌, arith}
 use Rattle.std.proofs.lemmas.List.{append-nil, length-drop}
 use Rattle.std.specs.Prelude.{⊤}
 use Rattle.ts_hooks.specs.declared.txn_end.TxnEnd.{TxnEnd}
@@ -12,15 +12,13 @@ use Rattle.ts_link.specs.Link.{Calls, Look}
 use Rattle.ts_transform.specs.Acting.{IsStage}
 use Rattle.ts_transform.specs.Driven.{Acts, IsOfNoStage}
 use Rattle.ts_transform.specs.Driving.{IsNamedIf, KeepsOthers, unroused}
-use Rattle.ts_transform.specs.Flow.{ChainState, MustRead, PumpsOnce, StepsAt, Takes, TakesAway}
-use Rattle.ts_transform.specs.Stage.{Steps}
-use Rattle.ts_transform.specs.declared.pump.Pumped.{Pumped}
-use Rattle.ts_transform.specs.declared.pump.Pumped.TheVariants as U
-use Rattle.ts_transform.specs.declared.pump.Stage.{Stage}
+use Rattle.ts_transform.specs.Flow.{ChainState, MustRead, PumpsOnce, TakesAway}
 use Rattle.ts_transform.specs.declared.continuation.StageContinuation.{StageContinuation}
+use Rattle.ts_transform.proofs.Carrying.{pumped_first, takes_first}
 use Rattle.ts_transform.proofs.Joined.{named_unroused}
 use Rattle.ts_transform.proofs.Setting.{only_none}
 use Rattle.ts_vconn.specs.MoveAnswers.{Went, pull_again, pull_failed, push_again, push_failed}
+use Rattle.ts_vconn.proofs.Bounds.{came_few}
 use Rattle.ts_vconn.specs.declared.moves.Pulled.{Pulled}
 use Rattle.ts_vconn.specs.declared.moves.Pulled.TheVariants as L
 use Rattle.ts_vconn.specs.declared.moves.Pushed.{Pushed}
@@ -45,7 +43,6 @@ use Rattle.ts_phases.specs.declared.parts.Sent.{Sent}
 use Rattle.ts_relay.specs.declared.relay.Relay.{Relay}
 use Rattle.ts_relay.proofs.BodyTimes.{in_time, named_later, named_others, no_pause, stage_only}
 use Rattle.ts_phases.proofs.Lowering.{no_more_same, same_length}
-use Rattle.ts_phases.proofs.OneSide.{came_few}
 use Rattle.ts_relay.proofs.Relaying.{text_behind}
 use Rattle.ts_relay.proofs.Settling.{settled_has, unless_lacking}
 
@@ -163,34 +160,6 @@ holds_kept v w c d inbox first h = record {
   );
 }
 
--- what is taken from the end of a chain leaves no more at its front
-taken_shorter : {P : Type 0} (from : List ℕ) (ss : List (Stage P)) (n : ℕ) (from' : List ℕ)
-    (ss' : List (Stage P)) → Takes from ss n from' ss' → length from' ≤ length from
-taken_shorter from [] n from' ss' takes = no_longer_drop n from from' takes.0
-taken_shorter from (s ∷ ss) n from' [] takes = absurd takes
-taken_shorter from (s ∷ ss) n from' (s' ∷ ss') takes = same_length from from' takes.0
-
--- nor does the work of a stage
-steps_shorter : {P : Type 0} (rest : P → List ℕ → List ℕ) (from : List ℕ) (s : Stage P) (r : Pumped)
-    (from' : List ℕ) (s' : Stage P) → Steps rest from s r from' s' → length from' ≤ length from
-steps_shorter rest from s (U.Moved n) from' s' steps = no_longer_drop n from from' steps.0
-steps_shorter rest from s _ from' s' steps = same_length from from' steps.0
-
--- nor that of one stage of a chain
-pumped_shorter : {P : Type 0} (rest : P → List ℕ → List ℕ) (from : List ℕ) (ss : List (Stage P)) (at : ℕ)
-    (r : Pumped) (from' : List ℕ) (ss' : List (Stage P)) → StepsAt rest from ss at r from' ss'
-    → length from' ≤ length from
-pumped_shorter rest from [] at r from' ss' steps = absurd steps
-pumped_shorter rest from (s ∷ ss) at r from' [] steps = absurd steps
-pumped_shorter rest from (s ∷ ss) zero r from' (s' ∷ ss') steps = steps_shorter rest from s r from' s' steps.0
-pumped_shorter rest from (s ∷ ss) (suc at) r from' (s' ∷ ss') steps = same_length from from' steps.0
-
-once_shorter : {P : Type 0} (rest : P → List ℕ → List ℕ) (c d : ChainState P) → PumpsOnce rest c d
-    → length d.first ≤ length c.first
-once_shorter rest c d (inl same) = same_length c.first d.first (ap (λ k. k.first) same)
-once_shorter rest c d (inr (at, pumps)) = pumped_shorter rest c.first c.stages at pumps.pumped d.first
-    d.stages pumps.steps
-
 -- a read brings no more than one piece, where nothing waited
 read_few : (t : Bool) (v w : View) (p : Pulled) → v.origin.inbox ≡ [] → ReadsOrigin t v w p
     → length w.origin.inbox ≤ MOST_PULLED
@@ -302,7 +271,7 @@ module _ {P : Type 0} (ct ot : Bool) (v w : View) (c d : ChainState P) (step : B
       → ol ≡ false → v.client.outbox ≡ [] → TakesAway rest n c d → QueuesText text cuts v w
       → MindsBody ct ot v w c d step cl ol
   minds_framed text cuts rest n calm no_client no_origin none takes queued =
-      queued_minds text cuts calm no_client no_origin none queued (taken_shorter c.first c.stages n d.first
+      queued_minds text cuts calm no_client no_origin none queued (takes_first c.first c.stages n d.first
       d.stages takes.takes)
 
   -- what waits of the origin's bytes was used
@@ -584,7 +553,7 @@ links_stage ct ot rest pause role event f v step result t r q s a c b is settled
       minds = minds_settled ct ot v v r.driven.chain q.driven.chain s.driven.chain step result false false
           settled (ap (λ e. e.chain) kept)
           (still_minds ct ot v v r.driven.chain q.driven.chain step false false calm
-          refl refl refl (once_shorter rest r.driven.chain q.driven.chain once));
+          refl refl refl (pumped_first rest r.driven.chain q.driven.chain once));
       due = λ named. subst (λ n. OnlyOfBody n n a b) (no_pause (is_late step))
           (in_time (pause_if (is_late step) 0) (pause_if (is_late step) 0) t q.reader a c b moment adds.keeps
           (stage_only rest pause role event r q a c acts other named.stages)

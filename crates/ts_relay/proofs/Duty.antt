@@ -1,11 +1,10 @@
 -- The duties of a body: what a stage's event keeps, who is roused, and that none is left where nothing is
 -- pending.
-use Rattle.std.proofs.Common.{◌≡◌, ℕ, ◌≤◌, ◌⊎◌, inl, inr, List, [], ◌∷◌, ◌++◌, Bool, true, false, Option, Some, None, Result, Ok, Err, refl, sym, ap, subst, ◌∙◌, arith}
+use Rattle.std.proofs.Common.{◌≡◌, ℕ, ◌≤◌, ◌⊎◌, inl, inr, List, [], ◌∷◌, ◌++◌, Bool, true, false, Option, Result, Ok, Err, refl, sym, ap, subst, ◌∙◌, arith}
 use Rattle.std.specs.Prelude.{OnOk, ⊤}
 use Rattle.std.specs.Bool.{OnTrue}
 use Rattle.ts_config.specs.declared.setup.Setup.{Setup}
 use Rattle.ts_journal.specs.declared.entry.TheConstants.{GREATEST}
-use Rattle.ts_journal.specs.declared.entry.Pending.{Pending}
 use Rattle.ts_group.specs.declared.action.Named.{Named}
 use Rattle.ts_group.specs.declared.action.SetFault.{SetFault}
 use Rattle.ts_group.specs.declared.action.SetFault.TheVariants as F
@@ -13,10 +12,11 @@ use Rattle.ts_group.specs.Context.{Context, IsOrderly}
 use Rattle.ts_group.proofs.Grows.{grows_trans}
 use Rattle.ts_transform.specs.Flow.{ChainState, EndsInOrder}
 use Rattle.ts_transform.specs.Acting.{StillGives}
-use Rattle.ts_transform.specs.Driving.{AddsEvents, IsOfStageIf, IsRousedIf, KeepsStage}
+use Rattle.ts_transform.specs.Driving.{AddsEvents, IsRousedIf, KeepsStage}
 use Rattle.ts_transform.specs.declared.continuation.StageContinuation.{StageContinuation}
 use Rattle.ts_transform.specs.Seats.{KeepsSeated}
 use Rattle.ts_transform.proofs.Joined.{all_carried}
+pub use Rattle.ts_transform.proofs.Joined.{none_pending}
 use Rattle.ts_transform.proofs.Seating.{seated_behind, seated_front, seated_then}
 use Rattle.ts_transform.proofs.Kept.{few_trans, kept_if, keeps_trans}
 use Rattle.ts_wire.specs.Place.{Place}
@@ -142,14 +142,6 @@ rouses_lacks step writes reads t u r a b main = record {
 }
 
 -- ---- no wake is lost
-
--- nobody is roused where nothing is pending
-pub none_pending : (roles : List Named) (role : ℕ) (t : Option StageContinuation) → IsOfStageIf [] roles role
-    t → IsRousedIf t → ⊥
-none_pending roles role None h roused = roused
-none_pending roles role (Some t) h roused =
-    let e = h.event roused in
-    absurd (let wrong : ◌≡◌ {A = Option Pending} None (Some e.event) = e.there in cc)
 
 -- with nothing pending no body is passed on: its chain would have given all, and the first continuation would
 -- be roused

@@ -17,6 +17,7 @@ use Rattle.ts_transform.specs.Flow.{AnswersAt, ChainState, EndsInOrder, IsFinish
 use Rattle.ts_transform.specs.Acting.{StillGives}
 use Rattle.ts_vconn.specs.MoveAnswers.{Came}
 use Rattle.ts_vconn.specs.Moves.{PullsOn}
+use Rattle.ts_vconn.proofs.Bounds.{came_few}
 use Rattle.ts_transform.specs.Carrying.{Carries, CarriesOn, HasWritten, MovesOn}
 use Rattle.ts_transform.proofs.Acting.{nothing_more}
 use Rattle.ts_transform.proofs.Flowing.{flow-finished}
@@ -65,13 +66,6 @@ pub moves_none : {P : Type 0} (rest : P → List ℕ → List ℕ) (it ot : Bool
     (was : Bool) (lacks : Type 0) → MovesOn rest it ot i i o o c c was was lacks
 moves_none rest it ot i o c was lacks = moves_wait rest it ot i o o c was lacks
     (λ tells. sym (append-nil o.taken)) (omega arith)
-
--- a read brings no more than was asked for
-pub came_few : (answer : Pulled) (most : ℕ) (more : List ℕ) → Came answer most more → length more ≤ most
-came_few (U.Some n) most more (len, some, few) = omega (arith, len, few)
-came_few U.End most more none = let l : length more ≡ 0 = ap length none in omega (arith, l)
-came_few U.Again most more none = let l : length more ≡ 0 = ap length none in omega (arith, l)
-came_few U.Failed most more none = let l : length more ≡ 0 = ap length none in omega (arith, l)
 
 -- no byte came
 pub pulled_none : (it : Bool) (i j : Look) (before after : List ℕ) (answer : Pulled) (most : ℕ)

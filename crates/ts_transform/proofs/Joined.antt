@@ -279,10 +279,10 @@ pub end_loses : {P Live : Type 0} (d e : DrivenChain P) (fault : SetFault) (now 
 end_loses d e fault now stopped lost cause = inr (fault, stopped, lost, cause)
 
 -- nobody is roused where nothing is pending
-pub none_of : (roles : List Named) (role : ℕ) (t : Option StageContinuation) → IsOfStageIf [] roles role t
+pub none_pending : (roles : List Named) (role : ℕ) (t : Option StageContinuation) → IsOfStageIf [] roles role t
     → IsRousedIf t → ⊥
-none_of roles role None h roused = roused
-none_of roles role (Some t) h roused = let e : HasEvent [] t.key = h.event roused in let wrong : None ≡ Some
+none_pending roles role None h roused = roused
+none_pending roles role (Some t) h roused = let e : HasEvent [] t.key = h.event roused in let wrong : None ≡ Some
     e.event = e.there in cc
 
 -- where more may come the last stage has not ended
@@ -303,7 +303,7 @@ all_carried {P} c ts w r roles h ends ordered =
     ((ended-rests c.given c.first c.stages (inl given) rests wait, wait), given)
   where
     wait : client_wait c ≡ []
-    wait = empty_unless (client_wait c) (λ some. none_of roles 1 w h.of_writer (ends.writes some))
+    wait = empty_unless (client_wait c) (λ some. none_pending roles 1 w h.of_writer (ends.writes some))
 
     rests : (j : ℕ) → MustPump c.given c.first c.stages j → ⊥
     rests j must = none-roused roles 3 ts j h.stages.of_stages (h.stages.cover j must)
@@ -312,7 +312,7 @@ all_carried {P} c ts w r roles h ends ordered =
     by_end true is = is
     by_end false is =
         let long : 65536 ≤ length c.first = full-else (length c.first)
-        (λ short. none_of roles 2 r h.of_reader (ends.reads (is, short))) in
+        (λ short. none_pending roles 2 r h.of_reader (ends.reads (is, short))) in
         absurd (let wrong : false ≡ true = sym (goes_on c.given c.stages is ordered) ∙ ended-rests c.given
         c.first c.stages (inr (longer_not_empty 65535 c.first long)) rests wait in cc)
 
