@@ -5,8 +5,9 @@ use Rattle.std.proofs.Common.{min, refl, sym, ap, subst, ◌∙◌, arith, appen
 use Rattle.std.specs.List.{AllByRecursion}
 use Rattle.std.proofs.lemmas.List.{append-nil, length-drop, length-take, take_min, drop_min}
 use Rattle.ts_wire.specs.Frames.{chunk_text}
-use Rattle.ts_record.specs.Generator.{after, body_at, chunk_length, chunks_by, cut_from, drawn, framing_at}
-use Rattle.ts_record.specs.Generator.{framing_count, generated, letter, most_sent}
+use Rattle.ts_record.specs.declared.generator.DrawnFraming.{DrawnFraming}
+use Rattle.ts_record.specs.Generator.{after, body_at, chunk_length, chunks_by, cut_from, framing_at}
+use Rattle.ts_record.specs.Generator.{framing_by, generated, letter, most_sent}
 use Rattle.ts_record.specs.Generator.{length_at, letters, next, pieces, pieces_by, response}
 use Rattle.ts_record.specs.Generator.{sent_at_once, txn_after, txn_at}
 use Rattle.ts_record.specs.Grammar.{IsRecordedPiece, IsTxn, KeepsLimits, TxnPieces}
@@ -155,21 +156,18 @@ txns_all size count n x txns whole past so_far =
 
 -- The draws of a transaction, in their order: the length of its body, how it is framed, and its letters. They
 -- lead to the state in which the response is cut that is made of them.
-pub response_made : (size x y z w length framing : ℕ) (body bytes : List ℕ) → y ≡ next x
-    → length ≡ drawn y % (size + 1) → z ≡ next y → framing ≡ drawn z % framing_count → body ≡ letters length z
+pub response_made : (size x y z w length : ℕ) (framing : DrawnFraming) (body bytes : List ℕ) → y ≡ next x
+    → length ≡ length_at size x → z ≡ next y → framing ≡ framing_by z → body ≡ letters length z
     → w ≡ after length z → bytes ≡ response framing body
     → (w ≡ cut_from size x) × (bytes ≡ response (framing_at x) (body_at size x))
-response_made size x y z w length framing body bytes first length_is second framing_is body_is third made = (
+response_made size x y z w length framing body bytes first counted second framing_is body_is third made = (
   third ∙ ap (λ n. after n z) counted ∙ ap (λ s. after (length_at size x) s) twice,
   made
       ∙ ap (λ b. response framing b)
       (body_is ∙ ap (λ n. letters n z) counted ∙ ap (λ s. letters (length_at size x) s) twice)
-      ∙ ap (λ f. response f (body_at size x)) (framing_is ∙ ap (λ s. drawn s % framing_count) twice),
+      ∙ ap (λ f. response f (body_at size x)) (framing_is ∙ ap framing_by twice),
 )
   where
-    counted : length ≡ length_at size x
-    counted = length_is ∙ ap (λ s. drawn s % (size + 1)) first
-
     twice : z ≡ next (next x)
     twice = second ∙ ap next first
 

@@ -5,6 +5,8 @@ use Rattle.std.specs.Prelude.{ℕ, zero, suc, ◌+◌, ◌*◌, ◌/◌, ◌%◌
 use Rattle.std.specs.Prelude.{length, take, drop, codes}
 use Rattle.std.specs.Fmt.{decimal}
 use Rattle.ts_wire.specs.Frames.{chunk_text, last_chunk}
+use Rattle.ts_record.specs.declared.generator.DrawnFraming.{DrawnFraming}
+use Rattle.ts_record.specs.declared.generator.DrawnFraming.TheVariants as D
 use Rattle.ts_record.specs.Grammar.{TxnPieces}
 
 abbrev pub multiplier : ℕ
@@ -51,6 +53,16 @@ abbrev pub letters : ℕ → ℕ → List ℕ
 letters zero x = []
 letters (suc n) x = letter (next x) ∷ letters n (next x)
 
+-- the framings by their numbers
+abbrev pub framing_of : ℕ → DrawnFraming
+framing_of zero = D.Length
+framing_of (suc zero) = D.Chunks
+framing_of (suc (suc n)) = D.Close
+
+-- how a body is framed, by the draw that leads to a state
+abbrev pub framing_by : ℕ → DrawnFraming
+framing_by x = framing_of (drawn x % framing_count)
+
 -- how many bytes are sent at once, by the draw that leads to a state
 abbrev pub sent_at_once : ℕ → ℕ
 sent_at_once x = 1 + drawn x % most_sent
@@ -75,13 +87,13 @@ chunks_by (suc k) (b ∷ bs) =
 
 -- what stands behind the first line of a response, by how its body is framed: of a known length, in chunks,
 -- or up to the close of the connection (RFC 9112, section 6.3)
-abbrev pub framed : ℕ → List ℕ → List ℕ
-framed zero body = codes "Content-Length: " ++ decimal (length body) ++ codes "\r\n\r\n" ++ body
-framed (suc zero) body = codes "Transfer-Encoding: chunked\r\n\r\n" ++ chunks_by (length body) body
-framed (suc (suc n)) body = codes "\r\n" ++ body
+abbrev pub framed : DrawnFraming → List ℕ → List ℕ
+framed D.Length body = codes "Content-Length: " ++ decimal (length body) ++ codes "\r\n\r\n" ++ body
+framed D.Chunks body = codes "Transfer-Encoding: chunked\r\n\r\n" ++ chunks_by (length body) body
+framed D.Close body = codes "\r\n" ++ body
 
 -- a response
-abbrev pub response : ℕ → List ℕ → List ℕ
+abbrev pub response : DrawnFraming → List ℕ → List ℕ
 response framing body = codes "HTTP/1.1 200 OK\r\n" ++ framed framing body
 
 -- the request of each client
@@ -93,8 +105,8 @@ abbrev pub length_at : ℕ → ℕ → ℕ
 length_at size x = drawn (next x) % (size + 1)
 
 -- how it is framed
-abbrev pub framing_at : ℕ → ℕ
-framing_at x = drawn (next (next x)) % framing_count
+abbrev pub framing_at : ℕ → DrawnFraming
+framing_at x = framing_by (next (next x))
 
 -- its body
 abbrev pub body_at : ℕ → ℕ → List ℕ

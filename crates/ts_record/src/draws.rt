@@ -12,7 +12,7 @@ const INCREMENT: u64 = 1_442_695_040_888_963_407;
 const HIDDEN_BITS: u32 = 33;
 
 /// A linear congruential generator of 64 bits.
-#[derive(Clone, Copy)]
+#[derive(Drop)]
 pub struct Draws {
     /// The seed, and then what the last draw led to.
     pub state: u64,

@@ -1,7 +1,7 @@
 //! A recording that is made from a seed: requests for one page, and responses of letters in every framing.
-ghost use Rattle.std.specs.Prelude.{◌≡◌, ◌<◌, ◌≤◌, ◌++◌, ◌∷◌, [], length, take, drop, IfOk, OnOk};
-ghost use Rattle.ts_record.specs.Generator.{after, chunks_by, framed, framing_count, generated, letters};
-ghost use Rattle.ts_record.specs.Generator.{origin_at, pieces, request, response, txn_after, txn_at};
+ghost use Rattle.std.specs.Prelude.{◌≡◌, ◌≤◌, ◌++◌, ◌∷◌, [], length, take, drop, IfOk, OnOk};
+ghost use Rattle.ts_record.specs.Generator.{after, chunks_by, framed, framing_by, generated, length_at, letters};
+ghost use Rattle.ts_record.specs.Generator.{next, origin_at, pieces, request, response, txn_after, txn_at};
 ghost use Rattle.ts_record.specs.Grammar.{KeepsLimits};
 ghost use Rattle.ts_wire.specs.Frames.{IsPiece, chunk_text, last_chunk};
 
@@ -24,6 +24,35 @@ const CHUNK: usize = 1_000;
 
 // The most bytes of a response that are sent at once.
 const MOST_SENT: u64 = 1_460;
+
+// How the body of a response is framed: by its length, in chunks, or to the close of the connection. (RFC
+// 9112, section 6.3.)
+#[derive(Clone, Copy)]
+enum DrawnFraming {
+    Length,
+    Chunks,
+    Close,
+}
+
+// The length of a body of at most so many bytes.
+fn draw_length(draws: &mut Draws, size: u32) -> usize
+    ensures length { result ≡ length_at size draws.old.state }
+    ensures state { draws.new.state ≡ next draws.old.state }
+{
+    draws.below(u64::from(size) + 1) as usize
+}
+
+// How a body is framed.
+fn draw_framing(draws: &mut Draws) -> DrawnFraming
+    ensures framing { result ≡ framing_by draws.new.state }
+    ensures state { draws.new.state ≡ next draws.old.state }
+{
+    match draws.below(FRAMINGS) {
+        0 => DrawnFraming::Length,
+        1 => DrawnFraming::Chunks,
+        _ => DrawnFraming::Close,
+    }
+}
 
 // A body of so many letters.
 fn draw_body(alloc: Global, draws: &mut Draws, count: usize) -> Result<Vec<u8>, NoMemory>
@@ -67,7 +96,7 @@ fn write_chunks(out: &mut Waiting, body: &[u8]) -> Result<(), NoMemory>
 
 // Writes the field of a length, and a body of that length.
 fn write_sized(out: &mut Waiting, body: &[u8]) -> Result<(), NoMemory>
-    ensures { OnOk result (out.new ≡ out.old ++ framed 0 body.now) }
+    ensures { OnOk result (out.new ≡ out.old ++ framed DrawnFraming.Length body.now) }
 {
     let mut number = Buffer::new();
     out.write(b"Content-Length: ")?;
@@ -77,17 +106,16 @@ fn write_sized(out: &mut Waiting, body: &[u8]) -> Result<(), NoMemory>
 }
 
 // Writes what stands behind the first line of a response, by how its body is framed.
-fn write_framed(out: &mut Waiting, framing: u64, body: &[u8]) -> Result<(), NoMemory>
-    requires { framing < framing_count }
+fn write_framed(out: &mut Waiting, framing: DrawnFraming, body: &[u8]) -> Result<(), NoMemory>
     ensures { OnOk result (out.new ≡ out.old ++ framed framing body.now) }
 {
     match framing {
-        0 => write_sized(out, body),
-        1 => {
+        DrawnFraming::Length => write_sized(out, body),
+        DrawnFraming::Chunks => {
             out.write(b"Transfer-Encoding: chunked\r\n\r\n")?;
             write_chunks(out, body)
         }
-        _ => {
+        DrawnFraming::Close => {
             out.write(b"\r\n")?;
             out.write(body)
         }
@@ -95,8 +123,7 @@ fn write_framed(out: &mut Waiting, framing: u64, body: &[u8]) -> Result<(), NoMe
 }
 
 // A response.
-fn respond(alloc: Global, framing: u64, body: &[u8]) -> Result<Waiting, NoMemory>
-    requires { framing < framing_count }
+fn respond(alloc: Global, framing: DrawnFraming, body: &[u8]) -> Result<Waiting, NoMemory>
     ensures { IfOk result (λ bytes. bytes ≡ response framing body.now) }
 {
     let mut out = Waiting::new(alloc)?;
@@ -136,8 +163,8 @@ fn draw_origin(alloc: Global, draws: &mut Draws, size: u32) -> Result<Vec<Octets
     ensures pieces { IfOk result (λ ps. ps.items ≡ origin_at size draws.old.state) }
     ensures state { OnOk result (draws.new.state ≡ txn_after size draws.old.state) }
 {
-    let length = draws.below(u64::from(size) + 1) as usize;
-    let framing = draws.below(FRAMINGS);
+    let length = draw_length(draws, size);
+    let framing = draw_framing(draws);
     let body = draw_body(alloc, draws, length)?;
     let bytes = respond(alloc, framing, body.as_slice())?;
     cut(alloc, draws, bytes)

@@ -10,11 +10,12 @@ made : (c : After-drop-body-2)
     × (c.in_ok-bytes.bytes
     ≡ response (framing_at c.args.draws.now.state) (body_at c.args.size c.args.draws.now.state))
 made c =
-    response_made c.args.size c.args.draws.now.state c.below-length.new.self.state
-    c.below-framing.new.self.state c.draw_body.new.draws.state c.below-length.result c.below-framing.result
-    c.in_ok-body.body.items c.in_ok-bytes.bytes c.below-length.ensures.state (search rules)
-    c.below-framing.ensures.state c.below-framing.ensures.drawn c.in_ok-body.ensures.letters
-    c.in_ok-body.ensures.state (search rules)
+    response_made c.args.size c.args.draws.now.state c.draw_length-length.new.draws.state
+    c.draw_framing-framing.new.draws.state c.draw_body.new.draws.state c.draw_length-length.result
+    c.draw_framing-framing.result c.in_ok-body.body.items c.in_ok-bytes.bytes
+    c.draw_length-length.ensures.state c.draw_length-length.ensures.length
+    c.draw_framing-framing.ensures.state c.draw_framing-framing.ensures.framing
+    c.in_ok-body.ensures.letters c.in_ok-body.ensures.state (search rules)
 
 pub returns-clause-pieces : goal.returns-clause-pieces
 returns-clause-pieces c =
