@@ -2,6 +2,7 @@ pub mod Composing
 pub mod Ending
 pub mod Filling
 pub mod Fixed
+pub mod Fronts
 pub mod Numbers
 pub mod Opening
 pub mod Parts

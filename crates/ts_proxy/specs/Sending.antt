@@ -1,5 +1,6 @@
 -- How far a text got into a sink, and a body through a chain.
 use Rattle.std.specs.Prelude.{◌≡◌, ℕ, ◌+◌, ◌*◌, ◌<◌, ◌≤◌, ◌++◌, List, [], ◌∷◌, length, Bool, true, false, Some, ⊤, nat_lt, if◌then◌else◌}
+use Rattle.ts_link.specs.Counts.{Counted}
 use Rattle.ts_link.specs.Seen.{SinkSeen}
 use Rattle.ts_journal.specs.State.{State, pending_at}
 use Rattle.ts_journal.specs.Log.{Log}
@@ -16,7 +17,7 @@ use Rattle.ts_transform.specs.World.{IsSound, IsSoundGroup}
 use Rattle.ts_proxy.specs.declared.writing.SendEnd.{SendEnd}
 use Rattle.ts_proxy.specs.declared.writing.SendEnd.TheVariants.{Done, Failed, NoMemory}
 use Rattle.ts_proxy.specs.Journals.{IsOfDriver}
-use Rattle.ts_proxy.specs.Took.{TookAll, TookFront}
+use Rattle.ts_proxy.specs.Took.{TookAll, TookBut, TookFront}
 
 -- the sink failed
 abbrev pub is_failed : SendEnd → Bool
@@ -37,6 +38,18 @@ OnDone _ P = ⊤
 abbrev pub WroteAll : SendEnd → SinkSeen → SinkSeen → List ℕ → Type 0
 WroteAll Done old new text = TookAll old new text
 WroteAll _ old new text = TookFront old new text
+
+-- what a sink says of a text that was written into it: it took all of it or a front, and a failure was one of
+-- its own
+pub record IsSent (end : SendEnd) (tells : Bool) (old new : SinkSeen) (text : List ℕ) : Type 0 where
+  pub told : tells ≡ true → WroteAll end old new text
+  pub faults : Counted (is_failed end) old.faults new.faults
+
+-- of lines that waited some may have been taken, and the others wait; or the end came, and a front of them was
+-- taken
+abbrev pub WroteSome : SendEnd → SinkSeen → SinkSeen → List ℕ → List ℕ → Type 0
+WroteSome Done old new lines waiting = TookBut old new lines waiting
+WroteSome _ old new lines waiting = TookFront old new lines
 
 -- what was taken grew, and that with what is still to come is what was to come
 pub record Passes (old new : SinkSeen) (coming coming' : List ℕ) : Type 0 where

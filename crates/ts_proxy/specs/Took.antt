@@ -9,6 +9,12 @@ pub record TookFront (old new : SinkSeen) (text : List ℕ) : Type 0 where
   pub grew : new.taken ≡ old.taken ++ took
   pub front : took ++ left ≡ text
 
+-- and by all of it but what is left
+pub record TookBut (old new : SinkSeen) (text left : List ℕ) : Type 0 where
+  pub took : List ℕ
+  pub grew : new.taken ≡ old.taken ++ took
+  pub front : took ++ left ≡ text
+
 -- what a sink took grew by all of the text
 abbrev pub TookAll : SinkSeen → SinkSeen → List ℕ → Type 0
 TookAll old new text = new.taken ≡ old.taken ++ text

@@ -11,7 +11,8 @@ ghost use Rattle.ts_replay.specs.Replayed.{IsReplayed};
 use crate::answer::{Answer, Performed};
 use crate::command::GenerateTask;
 use crate::summary::summarize;
-use crate::threaded::{run_txns, send_text};
+use crate::threaded::{performed_after, run_txns};
+use crate::writing::write_all;
 use std::alloc::Global;
 use std::sync::Wait;
 use std::thread::Threads;
@@ -70,7 +71,8 @@ fn send_summary<K: Sink>(alloc: Global, replayed: Replayed, out: &mut K) -> Perf
     let Ok(text) = summarize(alloc, replayed.blocks.as_slice()) else {
         return Performed::without(alloc, Answer::OutOfMemory);
     };
-    send_text(alloc, text.as_slice(), replayed.journals, out)
+    let end = write_all(out, text.as_slice());
+    performed_after(alloc, end, replayed.journals)
 }
 
 /// Makes the recording that the numbers stand for, runs it on four event threads, which pass the gate, and

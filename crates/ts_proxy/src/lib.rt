@@ -10,6 +10,7 @@ mod laws;
 mod number;
 mod reading;
 mod replay;
+mod report;
 mod summary;
 mod telling;
 mod threaded;

@@ -14,13 +14,14 @@ ghost use Rattle.ts_thread.specs.declared.TheConstants.{MOST_THREADS};
 use crate::answer::{Answer, Performed};
 use crate::command::ReplayTask;
 use crate::reading::{Files, read_files};
-use crate::threaded::{run_txns, send_text};
+use crate::report::write_report;
+use crate::threaded::{performed_after, run_txns};
 use std::alloc::Global;
 use std::sync::Wait;
 use std::thread::Threads;
 use ts_config::TransformLine;
-use ts_link::{Gate, Octets, Shelf, Sink};
-use ts_record::{RecordedTxn, RecordingRefusal, print_report, read_recording};
+use ts_link::{Gate, NoMemory, Octets, Shelf, Sink};
+use ts_record::{RecordedTxn, RecordingRefusal, read_recording};
 use ts_replay::Replayed;
 
 // The transactions of the recording in these bytes.
@@ -55,11 +56,11 @@ fn run_recording<G: Gate + Sync, R: Threads + Wait + Sync>(
     };
     match run_txns(rt, alloc, lines, txns, threads, gate) {
         Ok(replayed) => Ok(replayed),
-        Err(_) => Err(Answer::OutOfMemory),
+        Err(NoMemory) => Err(Answer::OutOfMemory),
     }
 }
 
-// Writes the report on transactions that were run.
+// Writes the report on transactions that were run. Their journals are left.
 fn send_report<K: Sink>(alloc: Global, replayed: Replayed, out: &mut K) -> Performed
     requires reported { AreReported replayed.blocks.items }
     ensures { (lines : List TransformLine) (bytes : List ℕ) → IsReplayOn lines bytes replayed →
@@ -67,10 +68,8 @@ fn send_report<K: Sink>(alloc: Global, replayed: Replayed, out: &mut K) -> Perfo
         result.answer result.journals.items }
 {
     let Replayed { blocks, journals } = replayed;
-    let Ok(report) = print_report(alloc, blocks) else {
-        return Performed::without(alloc, Answer::OutOfMemory);
-    };
-    send_text(alloc, report.as_slice(), journals, out)
+    let end = write_report(alloc, blocks, out);
+    performed_after(alloc, end, journals)
 }
 
 /// Runs a recording under the lines of a configuration, both of which the shelf has under these names, on so

@@ -1,20 +1,23 @@
-//! What `replay` and `generate` share: transactions are run on event threads, and a text on them is written.
-ghost use Rattle.std.specs.Prelude.{◌<◌, ◌≤◌, length, IfOk};
+//! What `replay` and `generate` share: transactions are run on event threads, and what comes of them where a
+//! text on them was written.
+ghost use Rattle.std.specs.Prelude.{◌<◌, ◌≤◌, Bool, List, ℕ, length, IfOk};
 ghost use Rattle.ts_config.specs.Bytes.{most_transforms};
 ghost use Rattle.ts_proxy.specs.Outcome.{Outcome};
+ghost use Rattle.ts_link.specs.Seen.{SinkSeen};
 ghost use Rattle.ts_proxy.specs.Performed.{AreOfThreads, IsCarriedOut, IsRunTo};
+ghost use Rattle.ts_proxy.specs.Sending.{IsSent};
 ghost use Rattle.ts_record.specs.declared.recording.TheConstants.{MOST_TXNS};
 ghost use Rattle.ts_replay.specs.Replayed.{IsReplayed};
 ghost use Rattle.ts_thread.specs.declared.TheConstants.{MOST_THREADS};
 
 use crate::answer::{Answer, Performed};
-use crate::writing::{SendEnd, write_all};
+use crate::writing::SendEnd;
 use std::alloc::Global;
 use std::sync::Wait;
 use std::thread::Threads;
 use ts_config::TransformLine;
 use ts_journal::Journal;
-use ts_link::{Gate, NoMemory, Sink};
+use ts_link::{Gate, NoMemory};
 use ts_record::RecordedTxn;
 use ts_replay::{ReplayFault, Replayed};
 
@@ -40,19 +43,14 @@ pub fn run_txns<G: Gate + Sync, R: Threads + Wait + Sync>(
     }
 }
 
-/// Writes a text on transactions that were run. Where all of it was taken, the job is done, and their
-/// journals are left.
-pub fn send_text<K: Sink>(
-    alloc: Global,
-    text: &[u8],
-    journals: Vec<Journal>,
-    out: &mut K,
-) -> Performed
-    ensures { (o : Outcome) → IsRunTo o text.now journals.items →
-        IsCarriedOut AreOfThreads o K.tells (K.seen out.old) (K.seen out.new)
-        result.answer result.journals.items }
+/// What a job came to whose text got so far into a sink. Where all of it was taken, the job is done, and the
+/// journals of its transactions are left.
+pub fn performed_after(alloc: Global, end: SendEnd, journals: Vec<Journal>) -> Performed
+    ensures { (o : Outcome) (text : List ℕ) (tells : Bool) (old new : SinkSeen) → IsRunTo o text journals.items
+        → IsSent end tells old new text
+        → IsCarriedOut AreOfThreads o tells old new result.answer result.journals.items }
 {
-    match write_all(out, text) {
+    match end {
         SendEnd::Done => Performed {
             answer: Answer::Done,
             journals,

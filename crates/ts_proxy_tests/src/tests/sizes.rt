@@ -1,7 +1,7 @@
 //! Recordings as large as they may be: in transactions, in bytes, and in the pieces of one body.
 
-use crate::command::{ON_1, ON_4, ON_64, Remains, left_by, shelf_of, wide_sink};
-use crate::comparison::{Comparison, compare, done, stopped};
+use crate::command::{ON_1, ON_4, ON_64, Remains, failing_sink, left_by, shelf_of, wide_sink};
+use crate::comparison::{Comparison, Wanted, compare, done, stopped};
 use crate::recording::{MOST_PIECE, at_once, in_pieces, recording_of};
 use crate::report::report_of;
 use crate::row::check_with;
@@ -23,6 +23,9 @@ const MIB: usize = 1_048_576;
 
 // The head of a response up to the close.
 const FRONT: &[u8] = b"HTTP/1.1 200 OK\r\n\r\n";
+
+// The last line of a report.
+const DONE: &[u8] = b"done\n";
 
 // So many letters, one after the other.
 fn letters(alloc: Global, length: usize) -> Result<Vec<u8>, NoMemory> {
@@ -80,6 +83,29 @@ fn a_large_body(rt: HostRuntime) -> Result<(), Fail> {
         let found = check_with(&rt, alloc, ON_4, config.as_slice(), &[exchange], &[stated])?;
         assert_eq!(rt; found, Comparison::AsStated, "pieces of {piece}");
     }
+    Ok(())
+}
+
+// A report goes out whenever 64 KiB of it are there. The lines on three of these bodies come to more: where the
+// next write fails, they stand on out, and no other.
+#[test]
+fn a_report_in_two_writes(rt: HostRuntime) -> Result<(), Fail> {
+    let alloc = rt.alloc();
+    let body = letters(alloc, 30_000)?;
+    let response = response_of(alloc, body.as_slice())?;
+    let recording = recording_of(alloc, &[at_once(GET, response.as_slice()); 5])?;
+    let three = report_of(alloc, &[in_chunks(body.as_slice()); 3])?;
+    let shelf = shelf_of(alloc, b"", recording.as_slice())?;
+    let out = failing_sink(alloc, usize::MAX, 2)?;
+    let left = left_by(&rt, alloc, ON_4, shelf, out, &OpenGate::make())?;
+    let front = left.out.written();
+    let wanted = Wanted {
+        out: front,
+        ..stopped(6, b"tsx: cannot write\n")
+    };
+    assert_eq!(rt; compare(&left, &wanted), Comparison::AsStated);
+    assert_eq!(rt; front.len() + DONE.len(), three.len());
+    assert!(rt; three.as_slice().starts_with(front));
     Ok(())
 }
 

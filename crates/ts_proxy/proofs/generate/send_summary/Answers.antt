@@ -13,7 +13,8 @@ returns-in_default g c = λ numbers on.
 
 pub returns : goal.returns
 returns g c = λ numbers on.
-    c.send_text.ensures (Summary numbers)
+    c.performed_after.ensures (Summary numbers) c.as_slice-2.result.now g.K.Sink.tells _ _
     (run-to-summary numbers c.args.replayed c.as_slice-2.result.now on
     (c.as_slice-2.ensures.value ∙ c.in-Ok.ensures ∙ ap (λ bs. summary_text (summary_of bs))
     c.as_slice.ensures.value))
+    (record { told = c.write_all-end.ensures.told; faults = c.write_all-end.ensures.faults })

@@ -1,6 +1,6 @@
 use Rattle.std.proofs.Common.{◌≡◌, true, map, drop}
 use Rattle.std.specs.List.{concat}
-use Rattle.ts_proxy.proofs.Parts.{TookBut}
+use Rattle.ts_proxy.specs.Took.{TookBut}
 use Rattle.ts_proxy.proofs.telling.tell.Given as goal
 
 -- all but the parts that are left was taken

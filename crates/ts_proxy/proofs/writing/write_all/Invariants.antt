@@ -1,5 +1,5 @@
 use Rattle.std.proofs.Common.{◌≡◌, length, true}
-use Rattle.ts_proxy.proofs.Parts.{TookBut}
+use Rattle.ts_proxy.specs.Took.{TookBut}
 use Rattle.ts_proxy.proofs.writing.write_all.Given as goal
 
 -- all but the rest was taken, and nothing failed
