@@ -15,7 +15,7 @@ use Rattle.ts_config.specs.Value.{Good, config_of}
 use Rattle.ts_proxy.specs.Outcome.{Outcome, Usage, BadLine, Long, Text, Report, Summary}
 use Rattle.ts_proxy.specs.Outcome.{most_config, filled, set_up}
 use Rattle.ts_proxy.specs.Summary.{IsSummaryOf}
-use Rattle.ts_proxy.specs.Took.{TookAll, TookFront, TookNothing, TookSome, TookWhole}
+use Rattle.ts_proxy.specs.Took.{TookNothing, TookSome, TookWhole}
 use Rattle.ts_record.specs.Offsets.{IsRefusedAt}
 
 -- the name of a file of a command with these names of its configuration and its input
@@ -137,14 +137,6 @@ IsCausedBy (a.CannotRead f) shelf shelf' out out' = Rose shelf.faults shelf'.fau
 IsCausedBy a.CannotWrite shelf shelf' out out' = Rose out.faults out'.faults
 IsCausedBy (a.TooLong f) shelf shelf' out out' = Rose shelf.longs shelf'.longs
 IsCausedBy _ shelf shelf' out out' = ⊤
-
--- what a sink took of a text: all of it where the job was done, a front of it where writing failed or memory
--- lacked, and nothing with an answer that comes before anything is written
-abbrev pub TookText : Answer → SinkSeen → SinkSeen → List ℕ → Type 0
-TookText a.Done old new text = TookAll old new text
-TookText a.CannotWrite old new text = TookFront old new text
-TookText a.OutOfMemory old new text = TookFront old new text
-TookText _ old new text = TookNothing old new
 
 -- what a sink took of the text of an outcome: all of it where the job was done, a front of it or nothing
 -- where writing failed or memory lacked, and nothing with an answer that comes before anything is written

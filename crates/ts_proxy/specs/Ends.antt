@@ -7,7 +7,7 @@ use Rattle.ts_proxy.specs.Answers.{IsTextOf}
 use Rattle.ts_proxy.specs.declared.answer.Answer.{Answer}
 use Rattle.ts_proxy.specs.declared.answer.Answer.TheVariants as a
 use Rattle.ts_proxy.specs.Outcome.{Outcome, Usage, BadLine, Missing, Long, Text, Report, Summary, outcome_of}
-use Rattle.ts_proxy.specs.Performed.{AreJournalsAt, AreJournalsOf}
+use Rattle.ts_proxy.specs.Performed.{AreJournalsAt, AreJournalsOf, LeavesShelf}
 use Rattle.ts_proxy.specs.Took.{TookSome, TookWhole}
 use Rattle.ts_proxy.specs.Words.{Task, is_told}
 use Rattle.ts_replay.specs.Reports.{HasRecording}
@@ -31,7 +31,7 @@ cannot_read = 5
 abbrev pub cannot_write : ℕ
 cannot_write = 6
 
--- also where the group of a recorded transaction had all the turns that it gets, which takes years
+-- also where the group of a transaction had all the turns that it gets, which takes years
 abbrev pub out_of_memory : ℕ
 out_of_memory = 7
 
@@ -79,11 +79,13 @@ pub record IsStatusOf (tells : Bool) (shelf : ShelfSeen) (task : Option Task) (n
   pub at : is_told tells task ≡ true → EndsAt (outcome_of shelf task) n
 
 -- A failure is one of the shelf or of the sink that was handed in: a status of a failure comes only where its
--- count rose.
-pub record HasCause (n : ℕ) (shelf shelf' : ShelfSeen) (out out' : SinkSeen) : Type 0 where
+-- count rose. Where the task names no file, what the shelf shows stays.
+pub record HasCause (task : Option Task) (n : ℕ) (shelf shelf' : ShelfSeen) (out out' : SinkSeen)
+    : Type 0 where
   pub read : n ≡ cannot_read → Rose shelf.faults shelf'.faults
   pub long : n ≡ too_long → Rose shelf.longs shelf'.longs
   pub write : n ≡ cannot_write → Rose out.faults out'.faults
+  pub unread : LeavesShelf task shelf shelf'
 
 -- neither a read nor a write failed, so the job is done, unless memory lacked
 abbrev pub Completes : ℕ → ShelfSeen → ShelfSeen → SinkSeen → SinkSeen → Type 0

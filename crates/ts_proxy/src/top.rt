@@ -4,7 +4,7 @@ ghost use Rattle.ts_proxy.specs.Answers.{HasOutput};
 ghost use Rattle.ts_proxy.specs.Ends.{status_of, out_of_memory, Completes, HasCause, IsStatusOf, JournalsAt, IsQuiet, TakesAt};
 ghost use Rattle.ts_proxy.specs.Lines.{IsAnswerOf, SaysLine, line_of, LineTold};
 ghost use Rattle.ts_proxy.specs.Outcome.{outcome_of};
-ghost use Rattle.ts_proxy.specs.Performed.{IsPerformed, LeavesShelf};
+ghost use Rattle.ts_proxy.specs.Performed.{IsPerformed};
 ghost use Rattle.ts_proxy.specs.Took.{TookNothing};
 ghost use Rattle.ts_proxy.specs.Words.{IsInLimits, begins_transform, is_told, task_of, threaded_task, word_bytes};
 ghost use Rattle.ts_proxy.specs.declared.answer.Answer.{Answer};
@@ -114,8 +114,9 @@ pub fn run<S: Shelf, K: Sink, E: Sink, G: Gate + Sync, R: Threads + Wait + Sync>
     // which comes there alone and always, unless a read failed, memory lacked or, where there is a text, a
     // write failed.
     ensures status { IsStatusOf S.tells (S.seen shelf.old) (task_of words.now) result.status }
-    // A failure is one of the shelf or the sink that was handed in.
-    ensures cause { HasCause result.status
+    // A failure is one of the shelf or the sink that was handed in. The shelf stays as it is where no file is
+    // named.
+    ensures cause { HasCause (task_of words.now) result.status
         (S.seen shelf.old) (S.seen shelf.new) (K.seen out.old) (K.seen out.new) }
     // Where there is a text and neither failed, the job is done, unless memory lacked.
     ensures completes { is_told S.tells (task_of words.now) ≡ true →
@@ -126,8 +127,6 @@ pub fn run<S: Shelf, K: Sink, E: Sink, G: Gate + Sync, R: Threads + Wait + Sync>
         TakesAt (outcome_of (S.seen shelf.old) (task_of words.now)) result.status
         (K.seen out.old) (K.seen out.new) }
     ensures quiet { K.tells ≡ true → IsQuiet result.status → TookNothing (K.seen out.old) (K.seen out.new) }
-    // The shelf stays as it is where no file is named.
-    ensures unread { LeavesShelf (task_of words.now) (S.seen shelf.old) (S.seen shelf.new) }
     // With status 0 the journal of the group of `transform`, which is that of a serial driver, or those of
     // the groups of the recorded or generated transactions, in their order. Each is lawful and not held, with
     // nothing pending.
@@ -160,7 +159,7 @@ pub fn run_transform<S: Shelf, K: Sink, E: Sink>(
     requires first { begins_transform (word_bytes words.now) ≡ true }
     // What is said of `run` holds of it, in the same words.
     ensures status { IsStatusOf S.tells (S.seen shelf.old) (task_of words.now) result.status }
-    ensures cause { HasCause result.status
+    ensures cause { HasCause (task_of words.now) result.status
         (S.seen shelf.old) (S.seen shelf.new) (K.seen out.old) (K.seen out.new) }
     ensures completes { is_told S.tells (task_of words.now) ≡ true →
         HasOutput (outcome_of (S.seen shelf.old) (task_of words.now)) →
@@ -169,7 +168,6 @@ pub fn run_transform<S: Shelf, K: Sink, E: Sink>(
         TakesAt (outcome_of (S.seen shelf.old) (task_of words.now)) result.status
         (K.seen out.old) (K.seen out.new) }
     ensures quiet { K.tells ≡ true → IsQuiet result.status → TookNothing (K.seen out.old) (K.seen out.new) }
-    ensures unread { LeavesShelf (task_of words.now) (S.seen shelf.old) (S.seen shelf.new) }
     ensures journals { JournalsAt S.tells (S.seen shelf.old) (task_of words.now)
         result.status result.journals.items }
     ensures line { (answer : Answer) × IsAnswerOf S.tells (S.seen shelf.old) (task_of words.now) answer

@@ -37,7 +37,7 @@ pub fn run_words<S: Shelf, K: Sink, E: Sink, G: Gate + Sync, R: Threads + Wait +
     gate: &G,
 ) -> u8
     ensures status { EndsAs S.tells (S.seen shelf.old) words result }
-    ensures cause { HasCause result
+    ensures cause { HasCause (task_asked words) result
         (S.seen shelf.old) (S.seen shelf.new) (K.seen out.old) (K.seen out.new) }
     ensures takes { is_told S.tells (task_asked words) ≡ true → K.tells ≡ true →
         TakesAt (outcome_of (S.seen shelf.old) (task_asked words)) result (K.seen out.old) (K.seen out.new) }
