@@ -10,12 +10,8 @@ use Rattle.ts_proxy.specs.declared.writing.SendEnd.TheVariants.{Done, Failed, No
 use Rattle.ts_record.specs.Report.{block_text, blocks_text, report_end}
 use Rattle.ts_record.specs.declared.report.ReportBlock.{ReportBlock}
 
--- nothing was taken yet
-pub took-none : (s : SinkSeen) (text : List ℕ) → TookBut s s text text
-took-none s text = record { took = []; grew = sym (append-nil s.taken); front = refl }
-
 -- all but what is left is a front
-pub front-but : (old new : SinkSeen) (text left : List ℕ) → TookBut old new text left → TookFront old new text
+front-but : (old new : SinkSeen) (text left : List ℕ) → TookBut old new text left → TookFront old new text
 front-but old new text left but = record {
   took = but.took;
   left = left;

@@ -36,9 +36,9 @@ fn send_block<K: Sink>(
     end
 }
 
-/// Writes the report on transactions that came to these blocks, in their order. What it takes of memory is
-/// the lines on one block, and 65,536 bytes. A block is let go once its lines are made, so where memory lacks
-/// for those of a later one, a front of the report may have been written.
+/// Writes the report on transactions that came to these blocks, in their order. Of its text there are at no
+/// time more than the lines on one block and 65,536 bytes in front of them. A block is let go once its lines
+/// are made. Where memory lacks for those of a later one, a front of the report may have been written.
 pub fn write_report<K: Sink>(alloc: Global, blocks: Vec<ReportBlock>, out: &mut K) -> SendEnd
     requires { AreReported blocks.items }
     ensures { IsSent result K.tells (K.seen out.old) (K.seen out.new) (report_text blocks.items) }
