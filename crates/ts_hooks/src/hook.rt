@@ -25,7 +25,8 @@ pub enum Hook {
 }
 
 impl Hook {
-    pub(crate) fn is_same(self, other: Hook) -> bool
+    /// Whether this hook is the other one.
+    pub fn is_same(self, other: Hook) -> bool
         ensures { result ≡ is_same self other }
     {
         self == other
