@@ -9,3 +9,4 @@ pub mod Due
 pub mod Answers
 pub mod Standing
 pub mod Slot
+pub mod Either
