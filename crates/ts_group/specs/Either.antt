@@ -46,14 +46,16 @@ EitherSound P Q w s roles = OfEither (λ a. P a s roles) (λ b. Q b s roles) w
 
 -- what holds of it while the handler of a role waits for the reply of a group to a question
 abbrev pub EitherAsking : {A B X : Type 0} → (A → State → List Named → ℕ → ℕ → X → Type 0)
-    → (B → State → List Named → ℕ → ℕ → X → Type 0) → Either A B → State → List Named → ℕ → ℕ → X → Type 0
+    → (B → State → List Named → ℕ → ℕ → X → Type 0)
+    → Either A B → State → List Named → ℕ → ℕ → X → Type 0
 EitherAsking P Q w s roles role group question =
     OfEither (λ a. P a s roles role group question) (λ b. Q b s roles role group question) w
 
 -- a reply of a group to a question is right
 abbrev pub EitherRight : {A B X Y : Type 0} → (A → ℕ → X → Y → Type 0) → (B → ℕ → X → Y → Type 0)
     → Either A B → ℕ → X → Y → Type 0
-EitherRight P Q w group question reply = OfEither (λ a. P a group question reply) (λ b. Q b group question reply) w
+EitherRight P Q w group question reply =
+    OfEither (λ a. P a group question reply) (λ b. Q b group question reply) w
 
 -- the groups that it may ask
 abbrev pub EitherMayAsk : {A B : Type 0} → (A → ℕ → Type 0) → (B → ℕ → Type 0) → Either A B → ℕ → Type 0
