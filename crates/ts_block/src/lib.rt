@@ -17,4 +17,4 @@ pub use content::acts_on;
 pub use framing::{asks_head, client_framing, framing_between, mode_of};
 pub use heads::is_interim;
 pub use own_answer::OwnStatus;
-pub use rules::{apply_rules, is_denied};
+pub use rules::{apply_rule, apply_rules, is_denied, is_site};

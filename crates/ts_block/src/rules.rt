@@ -8,8 +8,8 @@ use ts_config::{PluginLine, Rule, Side, Sites};
 use ts_link::NoMemory;
 use ts_wire::{Field, Fields};
 
-// The fields after one rule.
-fn apply_rule(mut fields: Fields, rule: &Rule) -> Result<Fields, NoMemory>
+/// The fields after one rule.
+pub fn apply_rule(mut fields: Fields, rule: &Rule) -> Result<Fields, NoMemory>
     ensures { IfOk result (λ after. after ≡ apply_rule rule.now fields) }
 {
     match rule {
@@ -85,9 +85,8 @@ fn is_same_site(site: &[u8], host: &[u8]) -> bool
     site.eq_ignore_ascii_case(host)
 }
 
-// Whether the host is one of the sites but for letter case. No list in memory has more of them than a `usize`
-// counts.
-fn is_site(sites: &Sites, host: &[u8]) -> Result<bool, NoMemory>
+/// Whether the host is one of the sites but for letter case.
+pub fn is_site(sites: &Sites, host: &[u8]) -> Result<bool, NoMemory>
     ensures { IfOk result (λ is. is ≡ is_site host.now sites.now) }
 {
     let mut k: usize = 0;
@@ -95,6 +94,7 @@ fn is_site(sites: &Sites, host: &[u8]) -> Result<bool, NoMemory>
         if is_same_site(site, host) {
             return Ok(true);
         }
+        // No list in memory has more sites than a `usize` counts.
         let Some(next) = k.checked_add(1) else {
             return Err(NoMemory);
         };
