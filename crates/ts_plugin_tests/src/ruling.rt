@@ -1,0 +1,148 @@
+//! Header rules: what they make of the fields at their own hook and at others, alone and in the order of
+//! their lines.
+
+use crate::asking::{Word, Written, ask_in_turn, deny_line, header_line, question_about, text_of};
+use std::alloc::Global;
+use std::test::Fail;
+use ts_config::{PluginLine, Side};
+use ts_hooks::Hook;
+use ts_link::Octets;
+use ts_plugin::{hook_of, next_line};
+
+// Some lines, the fields before them, and the fields after them at the hook of each side.
+struct Row {
+    lines: &'static [Written],
+    before: &'static [(&'static [u8], &'static [u8])],
+    request: &'static [u8],
+    response: &'static [u8],
+}
+
+const ROWS: [Row; 8] = [
+    // a rule of one side leaves the other as it is
+    Row {
+        lines: &[(Side::Request, Word::Set, b"X-A", b"1")],
+        before: &[(b"x-a", b"0"), (b"b", b"2"), (b"X-a", b"3")],
+        request: b"b: 2\nx-a: 1\n",
+        response: b"x-a: 0\nb: 2\nx-a: 3\n",
+    },
+    Row {
+        lines: &[(Side::Response, Word::Add, b"x-a", b"1")],
+        before: &[(b"X-A", b"0"), (b"b", b"2")],
+        request: b"x-a: 0\nb: 2\n",
+        response: b"x-a: 0\nb: 2\nx-a: 1\n",
+    },
+    Row {
+        lines: &[(Side::Response, Word::Remove, b"SERVER", b"")],
+        before: &[(b"Server", b"z"), (b"b", b"2"), (b"server", b"y")],
+        request: b"server: z\nb: 2\nserver: y\n",
+        response: b"b: 2\n",
+    },
+    // what is not there is not removed, and a field is set where there was none
+    Row {
+        lines: &[
+            (Side::Request, Word::Remove, b"x-a", b""),
+            (Side::Request, Word::Set, b"x-b", b"Value 1"),
+        ],
+        before: &[],
+        request: b"x-b: Value 1\n",
+        response: b"",
+    },
+    // the order of the lines decides
+    Row {
+        lines: &[
+            (Side::Response, Word::Set, b"X-A", b"1"),
+            (Side::Response, Word::Add, b"x-a", b"2"),
+        ],
+        before: &[(b"server", b"z")],
+        request: b"server: z\n",
+        response: b"server: z\nx-a: 1\nx-a: 2\n",
+    },
+    Row {
+        lines: &[
+            (Side::Response, Word::Add, b"x-a", b"2"),
+            (Side::Response, Word::Set, b"X-A", b"1"),
+        ],
+        before: &[(b"server", b"z")],
+        request: b"server: z\n",
+        response: b"server: z\nx-a: 1\n",
+    },
+    Row {
+        lines: &[
+            (Side::Request, Word::Add, b"x-a", b"1"),
+            (Side::Request, Word::Remove, b"X-A", b""),
+            (Side::Request, Word::Add, b"X-a", b"2"),
+        ],
+        before: &[],
+        request: b"x-a: 2\n",
+        response: b"",
+    },
+    // rules of both sides stand between each other
+    Row {
+        lines: &[
+            (Side::Request, Word::Set, b"x-a", b"1"),
+            (Side::Response, Word::Set, b"x-a", b"2"),
+            (Side::Request, Word::Add, b"x-b", b"3"),
+            (Side::Response, Word::Remove, b"x-b", b""),
+        ],
+        before: &[(b"x-b", b"0"), (b"x-a", b"0")],
+        request: b"x-b: 0\nx-a: 1\nx-b: 3\n",
+        response: b"x-a: 2\n",
+    },
+];
+
+// The lines of a row, behind a deny list.
+fn lines_of(alloc: Global, row: &Row) -> Result<Vec<PluginLine>, Fail> {
+    let mut lines = Vec::new(alloc);
+    lines.push(deny_line(alloc, &[b"a"])?)?;
+    for written in row.lines {
+        lines.push(header_line(alloc, *written)?)?;
+    }
+    Ok(lines)
+}
+
+// The fields of a row after the plugins of a hook were asked.
+fn text_at(alloc: Global, row: &Row, hook: Hook) -> Result<Octets, Fail> {
+    let lines = lines_of(alloc, row)?;
+    let question = question_about(alloc, hook, row.before)?;
+    let fields = ask_in_turn(alloc, lines.as_slice(), question)?;
+    text_of(alloc, &fields)
+}
+
+#[test]
+fn rules_are_applied_in_the_order_of_their_lines(rt: HostRuntime) -> Result<(), Fail> {
+    for (place, row) in ROWS.iter().enumerate() {
+        let request = text_at(rt.alloc(), row, Hook::SendRequestHdr)?;
+        assert_eq!(rt; request.bytes(), row.request, "request of row {place}");
+        let response = text_at(rt.alloc(), row, Hook::SendResponseHdr)?;
+        assert_eq!(rt; response.bytes(), row.response, "response of row {place}");
+    }
+    Ok(())
+}
+
+// A hook, a place, and where the next line of the hook stands from there on.
+const PLACES: [(Hook, usize, Option<usize>); 10] = [
+    (Hook::OsDns, 0, Some(0)),
+    (Hook::OsDns, 1, None),
+    (Hook::SendRequestHdr, 0, Some(1)),
+    (Hook::SendRequestHdr, 1, Some(1)),
+    (Hook::SendRequestHdr, 2, Some(3)),
+    (Hook::SendRequestHdr, 4, None),
+    (Hook::SendResponseHdr, 0, Some(2)),
+    (Hook::SendResponseHdr, 4, Some(4)),
+    (Hook::SendResponseHdr, 9, None),
+    (Hook::TxnStart, 0, None),
+];
+
+#[test]
+fn the_lines_of_a_hook_are_found_in_their_order(rt: HostRuntime) -> Result<(), Fail> {
+    let lines = lines_of(rt.alloc(), &ROWS[7])?;
+    for (place, (hook, from, found)) in PLACES.iter().enumerate() {
+        assert_eq!(rt;
+            next_line(lines.as_slice(), *hook, *from),
+            *found,
+            "row {place}"
+        );
+    }
+    assert!(rt; matches!(hook_of(&lines[0]), Hook::OsDns));
+    Ok(())
+}
