@@ -1,0 +1,11 @@
+-- Moments, in milliseconds.
+use Rattle.std.specs.Prelude.{ℕ, ◌+◌, ◌/◌, min}
+use Rattle.ts_link.specs.Counts.{greatest}
+
+-- the moment so many milliseconds later: it stays at the greatest `u64`
+abbrev pub later : ℕ → ℕ → ℕ
+later moment period = min (moment + period) greatest
+
+-- the whole milliseconds of so many nanoseconds: they stay at the greatest `u64`
+abbrev pub milliseconds : ℕ → ℕ
+milliseconds nanoseconds = min (nanoseconds / 1_000_000) greatest

@@ -1,0 +1,23 @@
+//! Links over the system's sockets: connections that do not wait, who listens and who dials, clients that
+//! linger until they have their answer, a clock, and addresses by number.
+#![tactic(auto)]
+
+mod address;
+mod clock;
+mod dialer;
+mod half_closed;
+mod heard;
+mod lingering;
+mod listener;
+mod stream;
+mod stream_link;
+
+pub use address::{AddressFault, address_of};
+pub use clock::{MonotonicClock, whole_milliseconds};
+pub use dialer::{Connector, Dialer, Dialing, SystemConnector};
+pub use half_closed::{HalfClosed, LINGER};
+pub use heard::{got_of, is_final, put_of};
+pub use lingering::{LAST_LINGER, Lingering, MOST_LINGERING, PASSED_AT_ONCE};
+pub use listener::{Acceptor, Arrival, Listener};
+pub use stream::Stream;
+pub use stream_link::{SocketLink, StreamLink};

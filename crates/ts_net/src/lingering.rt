@@ -1,0 +1,150 @@
+//! Clients that were answered, and linger until they have their answer.
+ghost use Rattle.std.specs.Prelude.{◌≡◌, ◌≢◌, ◌<◌, ◌≤◌, [], length, IfOk};
+ghost use Rattle.ts_net.specs.Lingers.{Keeps, LooksAt, PassesOne, in_time, place_of, with_room};
+
+use crate::half_closed::HalfClosed;
+use crate::stream::Stream;
+use crate::stream_link::StreamLink;
+use std::alloc::Global;
+use std::marker::Model;
+use ts_link::{Clock, NoMemory};
+
+/// How many connections linger at once, at most.
+pub const MOST_LINGERING: usize = 256;
+
+/// How many bytes one read passes over, at most.
+pub const PASSED_AT_ONCE: usize = 65_536;
+
+/// How many milliseconds whatever lingers is kept once nobody else is served, at most.
+pub const LAST_LINGER: u64 = 100;
+
+/// Connections whose write side is shut. Each is closed where its peer has ended or gone, where its time is
+/// over, or where too many came after it.
+#[derive(Drop)]
+pub struct Lingering<S> {
+    waiting: Vec<HalfClosed<S>>,
+    turn: usize,
+    room: Vec<u8>,
+}
+
+impl<S> Model for Lingering<S> {
+    ghost use Rattle.ts_net.specs.Lingers.{Lingers};
+
+    ghost Value = { Lingers S };
+
+    ghost use Rattle.std.specs.Prelude.{◌×◌, ◌≤◌, ◌<◌, length};
+    ghost use Rattle.ts_net.specs.declared.lingering.TheConstants.{MOST_LINGERING};
+
+    ghost view = { λ l. record { waiting = l.waiting.items; turn = l.turn } };
+
+    ghost invariant = { λ l. (length l.waiting.items ≤ MOST_LINGERING) × (0 < length l.room.items) };
+}
+
+// The room of one read.
+fn read_room(alloc: Global) -> Result<Vec<u8>, NoMemory>
+    ensures { IfOk result (λ room. 0 < length room.items) }
+{
+    let mut room = Vec::new(alloc);
+    room.resize(PASSED_AT_ONCE, 0)?;
+    Ok(room)
+}
+
+// Closes the one that came first, where no more may linger.
+fn make_room<S: Drop>(waiting: &mut Vec<HalfClosed<S>>)
+    ensures { waiting.new.items ≡ with_room waiting.old.items }
+{
+    if waiting.len() >= MOST_LINGERING {
+        drop(waiting.remove(0));
+    }
+}
+
+// Closes those whose time is over.
+fn close_overdue<S: Stream + Drop>(waiting: &mut Vec<HalfClosed<S>>, moment: u64)
+    ensures { waiting.new.items ≡ in_time moment waiting.old.items }
+{
+    waiting.retain(|half| !half.is_over(moment));
+}
+
+// Reads the one at this place, and closes it if no more may come.
+fn pass_one<S: Stream + Drop>(
+    waiting: &mut Vec<HalfClosed<S>>,
+    turn: &mut usize,
+    room: &mut [u8],
+)
+    requires place { turn.old < length waiting.old.items }
+    requires room { 0 < length room.old }
+    ensures { PassesOne S.reads turn.old waiting.old.items
+        (record { waiting = waiting.new.items; turn = turn.new }) }
+{
+    if waiting[*turn].pass_over(room) {
+        *turn += 1;
+    } else {
+        drop(waiting.remove(*turn));
+    }
+}
+
+impl<S: Stream + Drop> Lingering<S> {
+    /// Nobody lingers yet.
+    pub fn new(alloc: Global) -> Result<Lingering<S>, NoMemory>
+        ensures { IfOk result (λ l. l.waiting ≡ []) }
+    {
+        Ok(Lingering {
+            waiting: Vec::new(alloc),
+            turn: 0,
+            room: read_room(alloc)?,
+        })
+    }
+
+    /// How many linger.
+    pub fn count(&self) -> usize
+        ensures value { result ≡ length self.now.waiting }
+        ensures most { result ≤ MOST_LINGERING }
+    {
+        self.waiting.len()
+    }
+
+    /// Shuts the write side of a client's connection at this moment, and keeps it. Where as many linger as may,
+    /// the one that came first is closed. At want of memory the connection is closed.
+    pub fn keep(&mut self, client: StreamLink<S>, moment: u64) -> Result<(), NoMemory>
+        ensures kept { OnOk result (Keeps S.shuts client.stream moment self.old self.new) }
+        ensures lack { OnErr result (self.new.waiting ≡ with_room self.old.waiting) }
+        ensures turn { self.new.turn ≡ self.old.turn }
+    {
+        make_room(&mut self.waiting);
+        self.waiting.push(HalfClosed::of(client.into_stream(), moment))?;
+        Ok(())
+    }
+
+    /// Closes the connections whose time is over at this moment, and reads one of the others, in turn.
+    pub fn look(&mut self, moment: u64)
+        ensures { LooksAt S.reads moment self.old self.new }
+    {
+        close_overdue(&mut self.waiting, moment);
+        if self.waiting.is_empty() {
+            return;
+        }
+        if self.turn >= self.waiting.len() {
+            self.turn = 0;
+        }
+        pass_one(&mut self.waiting, &mut self.turn, self.room.as_mut_slice());
+    }
+
+    /// Goes on with those who linger, until there are none, or for `LAST_LINGER` milliseconds of this clock,
+    /// and for no more pauses of a millisecond than that. Then all are closed.
+    pub fn finish<C: Clock>(&mut self, clock: &C)
+        ensures { self.new.waiting ≡ [] }
+    {
+        let end = clock.now().saturating_add(LAST_LINGER);
+        for _ in 0..LAST_LINGER {
+            let moment = clock.now();
+            if self.waiting.is_empty() || end <= moment {
+                break;
+            }
+            for _ in 0..self.waiting.len() {
+                self.look(moment);
+            }
+            clock.pause(1);
+        }
+        self.waiting.clear();
+    }
+}

@@ -1,0 +1,143 @@
+//! Who listens: clients are accepted one after the other, each with the number of clients so far as its name.
+ghost use Rattle.std.specs.Prelude.{◌≡◌, Result, IfOk, ⊤};
+ghost use Rattle.std_io.specs.declared.io.error.Error.{Error};
+ghost use Rattle.ts_link.specs.Counts.{one_more};
+ghost use Rattle.ts_net.specs.Arrivals.{IsArrival, after_arrival, fresh_listener};
+
+use crate::heard::is_final;
+use crate::stream::Stream;
+use crate::stream_link::StreamLink;
+use mio::net::{TcpListener, TcpStream};
+use std::io;
+use std::net::{Net, SocketAddr};
+
+/// What clients of the system connect to.
+pub trait Acceptor {
+    type Stream: Stream + Drop;
+
+    // The second is what an accept left of the first, with this answer.
+    ghost accepts: { Self → Self → Result Self.Stream Error → Type 0 };
+
+    /// The next connection. Where none is there, the answer is `WouldBlock`.
+    fn next_stream(&mut self) -> io::Result<Self::Stream>
+        ensures { accepts self.old self.new result };
+}
+
+// A connection sends what is written at once. Where that cannot be set, its peer has gone.
+impl Acceptor for TcpListener {
+    type Stream = TcpStream;
+
+    ghost accepts = { λ before after answer. ⊤ };
+
+    fn next_stream(&mut self) -> io::Result<TcpStream> {
+        let (stream, _) = self.accept()?;
+        let _ = stream.set_nodelay(true);
+        Ok(stream)
+    }
+}
+
+/// What comes of an accept. After `Again` a later one may give a client, after `Closed` and `Failed` none.
+#[derive(Drop)]
+pub enum Arrival<S> {
+    Client(StreamLink<S>),
+    Again,
+    Closed,
+    Failed,
+}
+
+/// Accepts clients, and counts them and each other answer.
+#[derive(Drop)]
+pub struct Listener<A> {
+    acceptor: A,
+    given: u64,
+    waits: u64,
+    ends: u64,
+    faults: u64,
+}
+
+impl<A> Listener<A> {
+    /// A listener that has accepted nobody.
+    pub fn new(acceptor: A) -> Listener<A>
+        ensures { result ≡ fresh_listener acceptor }
+    {
+        Listener {
+            acceptor,
+            given: 0,
+            waits: 0,
+            ends: 0,
+            faults: 0,
+        }
+    }
+
+    /// How many clients it gave.
+    pub fn given(&self) -> u64
+        ensures { result ≡ self.now.given }
+    {
+        self.given
+    }
+
+    /// How many answers were `Again`. This count, like the two others, stays at the greatest `u64`.
+    pub fn waits(&self) -> u64
+        ensures { result ≡ self.now.waits }
+    {
+        self.waits
+    }
+
+    /// How many answers were `Closed`.
+    pub fn ends(&self) -> u64
+        ensures { result ≡ self.now.ends }
+    {
+        self.ends
+    }
+
+    /// How many answers were `Failed`.
+    pub fn faults(&self) -> u64
+        ensures { result ≡ self.now.faults }
+    {
+        self.faults
+    }
+}
+
+impl Listener<TcpListener> {
+    /// Listens at this address, with the longest backlog that the system allows. The port 0 stands for any
+    /// free one.
+    pub fn bind<R: Net>(rt: &R, address: SocketAddr) -> io::Result<Listener<TcpListener>>
+        ensures { IfOk result (λ listener. listener ≡ fresh_listener listener.acceptor) }
+    {
+        Ok(Listener::new(TcpListener::bind(rt, address)?))
+    }
+
+    /// The address that it listens at, with its port.
+    pub fn address(&self) -> io::Result<SocketAddr> {
+        self.acceptor.local_addr()
+    }
+}
+
+impl<A: Acceptor> Listener<A> {
+    /// The next client, if one is there. Its name is the number of clients given, itself among them. `Failed`
+    /// comes where no later accept can succeed, and `Closed` where the clients cannot be counted any more.
+    pub fn accept(&mut self) -> Arrival<A::Stream>
+        ensures heard { IsArrival A.accepts self.old self.new.acceptor result }
+        ensures after { self.new ≡ after_arrival result self.new.acceptor self.old }
+    {
+        let Some(number) = self.given.checked_add(1) else {
+            self.ends = self.ends.saturating_add(1);
+            return Arrival::Closed;
+        };
+        match self.acceptor.next_stream() {
+            Ok(stream) => {
+                self.given = number;
+                Arrival::Client(StreamLink::new(stream, number))
+            }
+            Err(error) => {
+                if is_final(&error) {
+                    self.faults = self.faults.saturating_add(1);
+                    Arrival::Failed
+                } else {
+                    self.waits = self.waits.saturating_add(1);
+                    Arrival::Again
+                }
+            }
+        }
+    }
+}

@@ -1,0 +1,191 @@
+//! Closing in stages: a client whose bytes were not all read gets its answer whole, and a clean end.
+ghost use Rattle.std.specs.Prelude.{◌<◌, length, ⊤};
+
+use crate::loopback::{PATIENCE, pair, read_waiting, write_all};
+use mio::net::TcpStream;
+use std::io::ErrorKind;
+use std::net::Net;
+use std::test::Fail;
+use std::{io, time};
+use ts_link::{Clock, Got, Link, Put};
+use ts_net::{
+    HalfClosed, LINGER, Lingering, MOST_LINGERING, MonotonicClock, PASSED_AT_ONCE, SocketLink,
+    Stream, StreamLink,
+};
+
+// How long the answer is. Of so much the system drops the greater part where a connection is closed over bytes
+// that wait unread.
+const ANSWER: usize = 1_000_000;
+
+const REQUEST: &[u8] = b"GET / HTTP/1.1\r\nHost: a.example\r\n\r\n";
+
+// What a client got, and how its reads ended.
+#[derive(Clone, Copy, PartialEq, Eq)]
+struct Heard {
+    bytes: u64,
+    end: Got,
+}
+
+// The whole answer, and a clean end.
+const WHOLE: Heard = Heard {
+    bytes: 1_000_000,
+    end: Got::End,
+};
+
+// A client that has sent all of its bytes and read so many, and the connection, of which one read was made and
+// the whole answer was written.
+struct Served {
+    client: SocketLink,
+    connection: SocketLink,
+    read: u64,
+}
+
+// Serves a client that sends these bytes; one read is made of them, into this room.
+fn serve<R: Net + time::Clock + AllocGlobal>(
+    rt: &R,
+    sent: &[u8],
+    room: &mut [u8],
+) -> io::Result<Served>
+    requires { 0 < length room.old }
+{
+    let (mut client, mut connection) = pair(rt)?;
+    write_all(&mut client, sent, &mut connection)?;
+    let _first = read_waiting(rt, &mut connection, room);
+    let answer = vec![in rt.alloc(); b'a'; ANSWER]?;
+    let read = write_all(&mut connection, answer.as_slice(), &mut client)?;
+    Ok(Served {
+        client,
+        connection,
+        read,
+    })
+}
+
+// Reads what comes to a client that sends on, while those who linger are looked at.
+fn hear<R: time::Clock>(
+    rt: &R,
+    client: &mut SocketLink,
+    read: u64,
+    sends: bool,
+    lingering: &mut Lingering<TcpStream>,
+) -> Heard {
+    let clock = MonotonicClock::new(rt);
+    let mut room = [0u8; 4096];
+    let mut bytes = read;
+    for _ in 0..PATIENCE {
+        lingering.look(clock.now());
+        if sends && client.write(b"and more") == Put::Failed {
+            break;
+        }
+        match client.read(&mut room) {
+            Got::Bytes(count) => bytes = bytes.saturating_add(count as u64),
+            Got::Again => clock.pause(1),
+            end => return Heard { bytes, end },
+        }
+    }
+    Heard {
+        bytes,
+        end: Got::Again,
+    }
+}
+
+// A request with a body of 100,000 bytes, of which 37 bytes are read; and the client sends on.
+#[test]
+fn an_answer_over_an_unread_body_comes_whole(rt: HostRuntime) -> Result<(), Fail> {
+    let clock = MonotonicClock::new(&rt);
+    let body = vec![in rt.alloc(); b'b'; 100_000]?;
+    for sends in [false, true] {
+        let mut lingering = Lingering::new(rt.alloc())?;
+        let mut room = [0u8; 37];
+        let mut served = serve(&rt, body.as_slice(), &mut room)?;
+        lingering.keep(served.connection, clock.now())?;
+        let heard = hear(&rt, &mut served.client, served.read, sends, &mut lingering);
+        assert!(rt; heard == WHOLE);
+        drop(served.client);
+        clock.pause(5);
+        for _ in 0..4 {
+            lingering.look(clock.now());
+        }
+        assert!(rt; lingering.count() == 0);
+    }
+    Ok(())
+}
+
+// Two requests in one piece, of which the first is read; the program ends as soon as it may.
+#[test]
+fn an_answer_before_a_second_request_comes_whole(rt: HostRuntime) -> Result<(), Fail> {
+    let clock = MonotonicClock::new(&rt);
+    let mut lingering = Lingering::new(rt.alloc())?;
+    let mut both = Vec::from_slice(rt.alloc(), REQUEST)?;
+    both.extend_from_slice(REQUEST)?;
+    let mut room = [0u8; 35];
+    let mut served = serve(&rt, both.as_slice(), &mut room)?;
+    assert!(rt; room.as_slice() == REQUEST);
+    let before = clock.now();
+    lingering.keep(served.connection, before)?;
+    lingering.finish(&clock);
+    assert!(rt; lingering.count() == 0);
+    assert!(rt; clock.now() < before.saturating_add(1_000));
+    let heard = hear(&rt, &mut served.client, served.read, false, &mut lingering);
+    assert!(rt; heard == WHOLE);
+    Ok(())
+}
+
+// A peer that neither sends nor ends, and takes nothing.
+#[derive(Drop)]
+struct Silent;
+
+impl Stream for Silent {
+    ghost reads = { λ before after answer room. ⊤ };
+
+    ghost writes = { λ before after piece answer. ⊤ };
+
+    ghost shuts = { λ before after. ⊤ };
+
+    fn receive(&mut self, _into: &mut [u8]) -> io::Result<usize> {
+        Err(io::Error::from(ErrorKind::WouldBlock))
+    }
+
+    fn send(&mut self, _piece: &[u8]) -> io::Result<usize> {
+        Err(io::Error::from(ErrorKind::WouldBlock))
+    }
+
+    fn end_sending(&mut self) {}
+}
+
+#[test]
+fn nobody_lingers_longer_and_no_more_linger_than_may(rt: HostRuntime) -> Result<(), Fail> {
+    let mut lingering = Lingering::new(rt.alloc())?;
+    for moment in 0..300u64 {
+        lingering.keep(StreamLink::new(Silent, 0), moment)?;
+    }
+    assert!(rt; lingering.count() == MOST_LINGERING);
+    // The first that was kept has come at 44.
+    lingering.look(LINGER + 43);
+    assert!(rt; lingering.count() == MOST_LINGERING);
+    lingering.look(LINGER + 44);
+    assert!(rt; lingering.count() == MOST_LINGERING - 1);
+    lingering.look(LINGER + 299);
+    assert!(rt; lingering.count() == 0);
+    Ok(())
+}
+
+#[test]
+fn a_connection_that_is_half_closed_is_read_on(rt: HostRuntime) -> Result<(), Fail> {
+    let clock = MonotonicClock::new(&rt);
+    let (mut client, served) = pair(&rt)?;
+    let mut half = HalfClosed::of(served.into_stream(), 7);
+    assert!(rt; !half.is_over(LINGER + 6) && half.is_over(LINGER + 7));
+    let mut room = vec![in rt.alloc(); 0u8; PASSED_AT_ONCE]?;
+    assert!(rt; read_waiting(&rt, &mut client, &mut [0]) == Got::End);
+    assert!(rt; half.pass_over(room.as_mut_slice()));
+    assert!(rt; client.write(b"late") == Put::Took(4));
+    assert!(rt; half.pass_over(room.as_mut_slice()));
+    drop(client);
+    clock.pause(5);
+    let mut more = true;
+    for _ in 0..4 {
+        more = more && half.pass_over(room.as_mut_slice());
+    }
+    assert!(rt; !more);
+    Ok(())
+}

@@ -1,0 +1,71 @@
+//! Who listens: clients by number, and which errors are faults.
+ghost use Rattle.std.specs.Prelude.{⊤};
+
+use crate::loopback::{accept, dial, listen};
+use mio::net::TcpStream;
+use std::io;
+use std::test::Fail;
+use ts_net::{Acceptor, Arrival, Listener, is_final};
+
+#[test]
+fn clients_have_their_number_as_name(rt: HostRuntime) -> Result<(), Fail> {
+    let mut listener = listen(&rt)?;
+    assert!(rt; listener.address()?.port() > 0);
+    assert!(rt; matches!(listener.accept(), Arrival::Again));
+    assert!(rt; listener.waits() == 1 && listener.given() == 0);
+    let _clients = (dial(&rt, &listener)?, dial(&rt, &listener)?);
+    assert!(rt; accept(&rt, &mut listener)?.name() == 1);
+    assert!(rt; accept(&rt, &mut listener)?.name() == 2);
+    assert!(rt; listener.given() == 2 && listener.faults() == 0 && listener.ends() == 0);
+    Ok(())
+}
+
+// Whoever asks for a client is answered with the error of this number.
+#[derive(Drop)]
+struct Refusing {
+    code: i32,
+}
+
+impl Acceptor for Refusing {
+    type Stream = TcpStream;
+
+    ghost accepts = { λ before after answer. ⊤ };
+
+    fn next_stream(&mut self) -> io::Result<TcpStream> {
+        Err(io::Error::from_raw_os_error(self.code))
+    }
+}
+
+// The numbers are those of accept(2): EPERM, EINTR, EBADF, EAGAIN, ENOMEM, EINVAL, ENFILE, EMFILE, EPROTO,
+// ENOTSOCK, ENOPROTOOPT, EOPNOTSUPP, ENETDOWN, ENETUNREACH, ECONNABORTED, ENOBUFS, EHOSTDOWN, EHOSTUNREACH.
+const ERRORS: [(i32, bool); 18] = [
+    (1, false),
+    (4, false),
+    (9, true),
+    (11, false),
+    (12, false),
+    (22, true),
+    (23, false),
+    (24, false),
+    (71, false),
+    (88, true),
+    (92, false),
+    (95, false),
+    (100, false),
+    (101, false),
+    (103, false),
+    (105, false),
+    (112, false),
+    (113, false),
+];
+
+#[test]
+fn only_what_cannot_be_mended_is_a_fault(rt: HostRuntime) {
+    for (code, fails) in ERRORS {
+        let mut listener = Listener::new(Refusing { code });
+        let failed = matches!(listener.accept(), Arrival::Failed);
+        assert!(rt; failed == fails, "at {code}");
+        assert!(rt; (listener.faults() == 1) == fails && (listener.waits() == 0) == fails);
+        assert!(rt; is_final(&io::Error::from_raw_os_error(code)) == fails);
+    }
+}
