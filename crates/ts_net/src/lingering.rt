@@ -66,11 +66,7 @@ fn close_overdue<S: Stream + Drop>(waiting: &mut Vec<HalfClosed<S>>, moment: u64
 }
 
 // Reads the one at this place, and closes it if no more may come.
-fn pass_one<S: Stream + Drop>(
-    waiting: &mut Vec<HalfClosed<S>>,
-    turn: &mut usize,
-    room: &mut [u8],
-)
+fn pass_one<S: Stream + Drop>(waiting: &mut Vec<HalfClosed<S>>, turn: &mut usize, room: &mut [u8])
     requires place { turn.old < length waiting.old.items }
     requires room { 0 < length room.old }
     ensures { PassesOne S.reads turn.old waiting.old.items
@@ -111,7 +107,8 @@ impl<S: Stream + Drop> Lingering<S> {
         ensures turn { self.new.turn ≡ self.old.turn }
     {
         make_room(&mut self.waiting);
-        self.waiting.push(HalfClosed::of(client.into_stream(), moment))?;
+        self.waiting
+            .push(HalfClosed::of(client.into_stream(), moment))?;
         Ok(())
     }
 

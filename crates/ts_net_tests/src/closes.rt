@@ -34,6 +34,7 @@ const WHOLE: Heard = Heard {
 
 // A client that has sent all of its bytes and read so many, and the connection, of which one read was made and
 // the whole answer was written.
+#[derive(Drop)]
 struct Served {
     client: SocketLink,
     connection: SocketLink,
@@ -96,11 +97,14 @@ fn an_answer_over_an_unread_body_comes_whole(rt: HostRuntime) -> Result<(), Fail
     for sends in [false, true] {
         let mut lingering = Lingering::new(rt.alloc())?;
         let mut room = [0u8; 37];
-        let mut served = serve(&rt, body.as_slice(), &mut room)?;
-        lingering.keep(served.connection, clock.now())?;
-        let heard = hear(&rt, &mut served.client, served.read, sends, &mut lingering);
-        assert!(rt; heard == WHOLE);
-        drop(served.client);
+        let Served {
+            mut client,
+            connection,
+            read,
+        } = serve(&rt, body.as_slice(), &mut room)?;
+        lingering.keep(connection, clock.now())?;
+        assert!(rt; hear(&rt, &mut client, read, sends, &mut lingering) == WHOLE);
+        drop(client);
         clock.pause(5);
         for _ in 0..4 {
             lingering.look(clock.now());
@@ -118,15 +122,18 @@ fn an_answer_before_a_second_request_comes_whole(rt: HostRuntime) -> Result<(), 
     let mut both = Vec::from_slice(rt.alloc(), REQUEST)?;
     both.extend_from_slice(REQUEST)?;
     let mut room = [0u8; 35];
-    let mut served = serve(&rt, both.as_slice(), &mut room)?;
+    let Served {
+        mut client,
+        connection,
+        read,
+    } = serve(&rt, both.as_slice(), &mut room)?;
     assert!(rt; room.as_slice() == REQUEST);
     let before = clock.now();
-    lingering.keep(served.connection, before)?;
+    lingering.keep(connection, before)?;
     lingering.finish(&clock);
     assert!(rt; lingering.count() == 0);
     assert!(rt; clock.now() < before.saturating_add(1_000));
-    let heard = hear(&rt, &mut served.client, served.read, false, &mut lingering);
-    assert!(rt; heard == WHOLE);
+    assert!(rt; hear(&rt, &mut client, read, false, &mut lingering) == WHOLE);
     Ok(())
 }
 
