@@ -1,5 +1,5 @@
 -- The texts of addresses: `127.0.0.1:8080`, or `[::1]:8080` (RFC 4291, section 2.2; RFC 3986, section 3.2.2).
-use Rattle.std.specs.Prelude.{¬◌, ℕ, List, ◌++◌, length, take, drop, codes, if◌then◌else◌, ⊤, Result, Ok, Err}
+use Rattle.std.specs.Prelude.{ℕ, List, ◌++◌, length, take, drop, codes, if◌then◌else◌, ⊤, Result, Ok, Err}
 use Rattle.std.specs.Net.Grammar.{IsSocketText}
 use Rattle.std.specs.Str.{bytes_eq}
 use Rattle.std.specs.declared.net.socket_addr.SocketAddr.{SocketAddr}

@@ -1,12 +1,12 @@
 -- What an accept answers, and what it leaves of who listens (Linux, accept(2)).
-use Rattle.std.specs.Prelude.{◌≡◌, ℕ, suc, ◌×◌, ◌<◌, if◌then◌else◌, Result, Ok, Err}
+use Rattle.std.specs.Prelude.{◌≡◌, ℕ, suc, ◌+◌, ◌<◌, if◌then◌else◌, Result, Ok, Err}
 use Rattle.std.specs.IoError.{raw_os_error}
-use Rattle.std_io.specs.declared.io.error.Error.{Error}
+use Rattle.std.specs.declared.io.Error.{Error}
 use Rattle.ts_link.specs.Counts.{greatest, one_more}
 use Rattle.ts_net.specs.Heard.{is_final}
 use Rattle.ts_net.specs.Links.{fresh_link}
 use Rattle.ts_net.specs.declared.listener.Arrival.{Arrival}
-use Rattle.ts_net.specs.declared.listener.Arrival.TheVariants as A
+use Rattle.ts_net.specs.declared.listener.Arrival.TheVariants as V
 use Rattle.ts_net.specs.declared.listener.Listener.{Listener}
 
 -- a listener that has accepted nobody
@@ -17,8 +17,8 @@ fresh_listener acceptor = record { acceptor = acceptor; given = 0; waits = 0; en
 -- no later
 -- accept can succeed, and else the caller may come again.
 abbrev pub arrival_of : {S : Type 0} → ℕ → Result S Error → Arrival S
-arrival_of number (Ok stream) = A.Client (fresh_link stream number)
-arrival_of number (Err e) = if is_final (raw_os_error e) then A.Failed else A.Again
+arrival_of number (Ok stream) = V.Client (fresh_link stream number)
+arrival_of number (Err e) = if is_final (raw_os_error e) then V.Failed else V.Again
 
 -- the system was asked once, and the answer is what its own says
 abbrev pub HearsArrival : {A S : Type 0} → (A → A → Result S Error → Type 0) → Listener A → A → Arrival S → Type 0
@@ -28,11 +28,11 @@ HearsArrival {S = S} accepts old acceptor answer =
 -- where clients can still be counted the system was asked, and else there are no more of them
 pub record IsArrival {A S : Type 0} (accepts : A → A → Result S Error → Type 0) (old : Listener A) (acceptor : A) (answer : Arrival S) : Type 0 where
   pub asks : old.given < greatest → HearsArrival accepts old acceptor answer
-  pub closes : old.given ≡ greatest → (answer ≡ A.Closed) × (acceptor ≡ old.acceptor)
+  pub closes : old.given ≡ greatest → (answer ≡ V.Closed) × (acceptor ≡ old.acceptor)
 
 -- the listener after an answer, which left what it accepts from so
 abbrev pub after_arrival : {A S : Type 0} → Arrival S → A → Listener A → Listener A
-after_arrival (A.Client link) acceptor l = record l { acceptor = acceptor; given = l.given + 1 }
-after_arrival A.Again acceptor l = record l { acceptor = acceptor; waits = one_more l.waits }
-after_arrival A.Closed acceptor l = record l { acceptor = acceptor; ends = one_more l.ends }
-after_arrival A.Failed acceptor l = record l { acceptor = acceptor; faults = one_more l.faults }
+after_arrival (V.Client link) acceptor l = record l { acceptor = acceptor; given = l.given + 1 }
+after_arrival V.Again acceptor l = record l { acceptor = acceptor; waits = one_more l.waits }
+after_arrival V.Closed acceptor l = record l { acceptor = acceptor; ends = one_more l.ends }
+after_arrival V.Failed acceptor l = record l { acceptor = acceptor; faults = one_more l.faults }

@@ -1,6 +1,6 @@
 -- What a dial answers, and what it leaves of who dials (POSIX, `connect` of a socket that does not block).
 use Rattle.std.specs.Prelude.{◌≡◌, Result, Ok, Err}
-use Rattle.std_io.specs.declared.io.error.Error.{Error}
+use Rattle.std.specs.declared.io.Error.{Error}
 use Rattle.ts_link.specs.Counts.{one_more}
 use Rattle.ts_net.specs.Links.{fresh_link}
 use Rattle.ts_net.specs.declared.dialer.Dialer.{Dialer}

@@ -2,8 +2,9 @@
 -- closing only
 -- the write side of the connection, and then continues to read until it receives a corresponding close by the
 -- client" (RFC 9112, section 9.6, in other words).
-use Rattle.std.specs.Prelude.{◌≡◌, ◌≢◌, ℕ, ◌+◌, ◌<◌, ◌×◌, List, [], ◌∷◌, ◌++◌, length, drop, filter, Bool, true, false, not, nat_le, if◌then◌else◌, Result}
-use Rattle.std_io.specs.declared.io.error.Error.{Error}
+use Rattle.std.specs.Prelude.{◌≡◌, ◌≢◌, ℕ, ◌+◌, List, [], ◌∷◌, ◌++◌, length, drop, filter, slice_index_or, slice_set, Bool, true, false, not, nat_le, if◌then◌else◌, Result}
+use Rattle.std.specs.List.{remove}
+use Rattle.std.specs.declared.io.Error.{Error}
 use Rattle.ts_link.specs.declared.link.Got.{Got}
 use Rattle.ts_link.specs.declared.link.Got.TheVariants as G
 use Rattle.ts_net.specs.Heard.{got_of}
@@ -50,19 +51,16 @@ pub record Keeps {S : Type 0} (shuts : S → S → Type 0) (stream : S) (moment 
 abbrev pub place_of : ℕ → ℕ → ℕ
 place_of turn count = if nat_le count turn then 0 else turn
 
--- One connection of a list, at a place, was read. It stays, as the read left it, if more may come; else it is
--- closed.
+-- The connection at a place of a list was read. If more may come it stays, as the read left it, and the next
+-- one has its turn; else it is closed.
 pub record PassesOne {S : Type 0} (reads : S → S → Result ℕ Error → List ℕ → Type 0) (place : ℕ) (old : List (HalfClosed S)) (new : Lingers S) : Type 0 where
-  pub before : List (HalfClosed S)
-  pub after : List (HalfClosed S)
   pub read : HalfClosed S
   pub left : HalfClosed S
   pub more : Bool
-  pub parts : old ≡ before ++ read ∷ after
-  pub at : length before ≡ place
+  pub at : read ≡ slice_index_or old place read
   pub passes : PassesOver reads read left more
-  pub waiting : new.waiting ≡ before ++ (if more then left ∷ [] else []) ++ after
-  pub turn : new.turn ≡ place + (if more then 1 else 0)
+  pub waiting : new.waiting ≡ (if more then slice_set old place left else remove old place)
+  pub turn : new.turn ≡ (if more then place + 1 else place)
 
 -- One of those whose time is not over at a moment was read, if there is one; the others stay as they are, and
 -- those

@@ -1,6 +1,6 @@
 //! Who dials: a connection to the origin is begun, and nobody waits for it.
 ghost use Rattle.std.specs.Prelude.{◌≡◌, Result, ⊤};
-ghost use Rattle.std_io.specs.declared.io.error.Error.{Error};
+ghost use Rattle.std.specs.declared.io.Error.{Error};
 ghost use Rattle.ts_net.specs.Dials.{HearsDial, after_dial, fresh_dialer};
 
 use crate::stream::Stream;

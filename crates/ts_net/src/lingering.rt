@@ -1,6 +1,6 @@
 //! Clients that were answered, and linger until they have their answer.
-ghost use Rattle.std.specs.Prelude.{◌≡◌, ◌≢◌, ◌<◌, ◌≤◌, [], length, IfOk};
-ghost use Rattle.ts_net.specs.Lingers.{Keeps, LooksAt, PassesOne, in_time, place_of, with_room};
+ghost use Rattle.std.specs.Prelude.{◌≡◌, ◌≢◌, ◌<◌, ◌≤◌, [], length, IfOk, OnOk, OnErr};
+ghost use Rattle.ts_net.specs.Lingers.{Keeps, LooksAt, PassesOne, PassesOver, in_time, with_room};
 
 use crate::half_closed::HalfClosed;
 use crate::stream::Stream;
@@ -32,7 +32,7 @@ impl<S> Model for Lingering<S> {
 
     ghost Value = { Lingers S };
 
-    ghost use Rattle.std.specs.Prelude.{◌×◌, ◌≤◌, ◌<◌, length};
+    ghost use Rattle.std.specs.Prelude.{◌≤◌, ◌<◌, length};
     ghost use Rattle.ts_net.specs.declared.lingering.TheConstants.{MOST_LINGERING};
 
     ghost view = { λ l. record { waiting = l.waiting.items; turn = l.turn } };
@@ -60,19 +60,35 @@ fn make_room<S: Drop>(waiting: &mut Vec<HalfClosed<S>>)
 
 // Closes those whose time is over.
 fn close_overdue<S: Stream + Drop>(waiting: &mut Vec<HalfClosed<S>>, moment: u64)
-    ensures { waiting.new.items ≡ in_time moment waiting.old.items }
+    ensures in_time { waiting.new.items ≡ in_time moment waiting.old.items }
+    ensures count { length waiting.new.items ≤ length waiting.old.items }
 {
     waiting.retain(|half| !half.is_over(moment));
 }
 
-// Reads the one at this place, and closes it if no more may come.
-fn pass_one<S: Stream + Drop>(waiting: &mut Vec<HalfClosed<S>>, turn: &mut usize, room: &mut [u8])
-    requires place { turn.old < length waiting.old.items }
-    requires room { 0 < length room.old }
-    ensures { PassesOne S.reads turn.old waiting.old.items
-        (record { waiting = waiting.new.items; turn = turn.new }) }
+// Reads a connection once, and answers whether more may come.
+fn pass_over<S: Stream>(half: &mut HalfClosed<S>, room: &mut Vec<u8>) -> bool
+    requires { 0 < length room.old.items }
+    ensures passes { PassesOver S.reads half.old half.new result }
+    ensures room { length room.new.items ≡ length room.old.items }
 {
-    if waiting[*turn].pass_over(room) {
+    half.pass_over(room.as_mut_slice())
+}
+
+// Reads the connection at this place, and closes it if no more may come.
+fn pass_one<S: Stream + Drop>(
+    waiting: &mut Vec<HalfClosed<S>>,
+    turn: &mut usize,
+    room: &mut Vec<u8>,
+)
+    requires place { turn.old < length waiting.old.items }
+    requires room { 0 < length room.old.items }
+    ensures passes { PassesOne S.reads turn.old waiting.old.items
+        (record { waiting = waiting.new.items; turn = turn.new }) }
+    ensures count { length waiting.new.items ≤ length waiting.old.items }
+    ensures room { 0 < length room.new.items }
+{
+    if pass_over(&mut waiting[*turn], room) {
         *turn += 1;
     } else {
         drop(waiting.remove(*turn));
@@ -123,7 +139,7 @@ impl<S: Stream + Drop> Lingering<S> {
         if self.turn >= self.waiting.len() {
             self.turn = 0;
         }
-        pass_one(&mut self.waiting, &mut self.turn, self.room.as_mut_slice());
+        pass_one(&mut self.waiting, &mut self.turn, &mut self.room);
     }
 
     /// Goes on with those who linger, until there are none, or for `LAST_LINGER` milliseconds of this clock,

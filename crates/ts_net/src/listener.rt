@@ -1,6 +1,6 @@
 //! Who listens: clients are accepted one after the other, each with the number of clients so far as its name.
 ghost use Rattle.std.specs.Prelude.{◌≡◌, Result, IfOk, ⊤};
-ghost use Rattle.std_io.specs.declared.io.error.Error.{Error};
+ghost use Rattle.std.specs.declared.io.Error.{Error};
 ghost use Rattle.ts_link.specs.Counts.{one_more};
 ghost use Rattle.ts_net.specs.Arrivals.{IsArrival, after_arrival, fresh_listener};
 

@@ -1,7 +1,7 @@
 //! Connections of which no call waits.
 ghost use Rattle.std.specs.Prelude.{ℕ, List, Result, ⊤};
 ghost use Rattle.std.specs.Io.{ReadsAtMost, WritesAtMost};
-ghost use Rattle.std_io.specs.declared.io.error.Error.{Error};
+ghost use Rattle.std.specs.declared.io.Error.{Error};
 
 use mio::net::TcpStream;
 use std::io;

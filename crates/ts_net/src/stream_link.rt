@@ -1,7 +1,7 @@
 //! A link over a connection of the system.
 ghost use Rattle.std.specs.Prelude.{◌≡◌, ◌<◌, length, false, Some, ⊤};
 ghost use Rattle.std.proofs.Common.{arith};
-ghost use Rattle.ts_link.specs.Counts.{one_more, one_more_if};
+ghost use Rattle.ts_link.specs.Counts.{Counted, Rose, one_more, one_more_if};
 ghost use Rattle.ts_link.specs.Link.{Reads, Writes};
 ghost use Rattle.ts_net.specs.Heard.{HearsRead, HearsWrite};
 ghost use Rattle.ts_net.specs.Links.{after_read, after_write, fresh_link, look_of};
@@ -65,14 +65,16 @@ impl<S> StreamLink<S> {
 
 // Counts one more.
 fn count(counted: &mut u64)
-    ensures { counted.new ≡ one_more counted.old }
+    ensures value { counted.new ≡ one_more counted.old }
+    ensures rose { Rose counted.old counted.new }
 {
     *counted = counted.saturating_add(1);
 }
 
 // Counts one more, if it is so.
 fn count_if(counts: bool, counted: &mut u64)
-    ensures { counted.new ≡ one_more_if counts counted.old }
+    ensures value { counted.new ≡ one_more_if counts counted.old }
+    ensures counted { Counted counts counted.old counted.new }
 {
     if counts {
         count(counted);
