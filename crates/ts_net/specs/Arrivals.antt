@@ -13,20 +13,22 @@ use Rattle.ts_net.specs.declared.listener.Listener.{Listener}
 abbrev pub fresh_listener : {A : Type 0} → A → Listener A
 fresh_listener acceptor = record { acceptor = acceptor; given = 0; waits = 0; ends = 0; faults = 0 }
 
--- What the system's answer to an accept is, where the next client has this number: an error is a fault where
--- no later
--- accept can succeed, and else the caller may come again.
+-- What the system's answer to an accept comes to, where the next client has this number: an error is a fault
+-- where no later accept can succeed, and else another client may come.
 abbrev pub arrival_of : {S : Type 0} → ℕ → Result S Error → Arrival S
 arrival_of number (Ok stream) = V.Client (fresh_link stream number)
 arrival_of number (Err e) = if is_final (raw_os_error e) then V.Failed else V.Again
 
--- the system was asked once, and the answer is what its own says
-abbrev pub HearsArrival : {A S : Type 0} → (A → A → Result S Error → Type 0) → Listener A → A → Arrival S → Type 0
+-- the system was asked once, and the answer is what its own comes to
+abbrev pub HearsArrival : {A S : Type 0} → (A → A → Result S Error → Type 0) → Listener A → A → Arrival S
+    → Type 0
 HearsArrival {S = S} accepts old acceptor answer =
-    (heard : Result S Error) × accepts old.acceptor acceptor heard × (answer ≡ arrival_of (suc old.given) heard)
+    (heard : Result S Error) × accepts old.acceptor acceptor heard
+    × (answer ≡ arrival_of (suc old.given) heard)
 
 -- where clients can still be counted the system was asked, and else there are no more of them
-pub record IsArrival {A S : Type 0} (accepts : A → A → Result S Error → Type 0) (old : Listener A) (acceptor : A) (answer : Arrival S) : Type 0 where
+pub record IsArrival {A S : Type 0} (accepts : A → A → Result S Error → Type 0) (old : Listener A)
+    (acceptor : A) (answer : Arrival S) : Type 0 where
   pub asks : old.given < greatest → HearsArrival accepts old acceptor answer
   pub closes : old.given ≡ greatest → (answer ≡ V.Closed) × (acceptor ≡ old.acceptor)
 

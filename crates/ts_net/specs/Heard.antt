@@ -1,6 +1,5 @@
 -- What the system's answers are to a link (POSIX, `read` and `write` of a socket that does not block), and
--- which of
--- its errors end the listening (Linux, accept(2)).
+-- which of its errors end the listening (Linux, accept(2)).
 use Rattle.std.specs.Prelude.{◌≡◌, ℕ, List, ℤ, Bool, true, false, ◌||◌, if◌then◌else◌, ◌==◌, Option, Some, None, Result, Ok, Err}
 use Rattle.std.specs.IoError.{error_kind}
 use Rattle.std.proofs.Common.{int_eq}
@@ -14,24 +13,24 @@ use Rattle.ts_link.specs.declared.link.Put.TheVariants as P
 use Rattle.ts_net.specs.declared.heard.TheConstants.{NO_DESCRIPTOR, NOT_LISTENING, NO_SOCKET}
 
 -- the call would have waited, or a signal broke it off
-abbrev pub is_wait : ErrorKind → Bool
-is_wait K.WouldBlock = true
-is_wait K.Interrupted = true
-is_wait _ = false
+abbrev pub would_wait : ErrorKind → Bool
+would_wait K.WouldBlock = true
+would_wait K.Interrupted = true
+would_wait _ = false
 
 -- memory was lacking
-abbrev pub is_lack : ErrorKind → Bool
-is_lack K.OutOfMemory = true
-is_lack _ = false
+abbrev pub lacks_memory : ErrorKind → Bool
+lacks_memory K.OutOfMemory = true
+lacks_memory _ = false
 
 -- what a read is to a link: no bytes are the end
 abbrev pub got_of : Result ℕ Error → Got
 got_of (Ok n) = if n == 0 then G.End else G.Bytes n
-got_of (Err e) = if is_wait (error_kind e) then G.Again else G.Failed
+got_of (Err e) = if would_wait (error_kind e) then G.Again else G.Failed
 
 -- what a write that failed is to a link
 abbrev pub put_failed_of : ErrorKind → Put
-put_failed_of kind = if is_wait kind then P.Again else (if is_lack kind then P.NoMemory else P.Failed)
+put_failed_of kind = if would_wait kind then P.Again else (if lacks_memory kind then P.NoMemory else P.Failed)
 
 -- what a write is to a link: to take no bytes is to fail
 abbrev pub put_of : Result ℕ Error → Put
@@ -47,12 +46,14 @@ abbrev pub is_final : Option ℤ → Bool
 is_final None = false
 is_final (Some c) = is_final_code c
 
--- a stream was read once, which left these bytes in the room, and the link's answer is what the system's says
-abbrev pub HearsRead : {S : Type 0} → (S → S → Result ℕ Error → List ℕ → Type 0) → S → S → Got → List ℕ → Type 0
+-- a stream was read once, which left these bytes in the room, and the link's answer is what the system's is
+abbrev pub HearsRead : {S : Type 0} → (S → S → Result ℕ Error → List ℕ → Type 0) → S → S → Got → List ℕ
+    → Type 0
 HearsRead reads old new answer into =
     (heard : Result ℕ Error) × reads old new heard into × (answer ≡ got_of heard)
 
--- these bytes were written to a stream once, and the link's answer is what the system's says
-abbrev pub HearsWrite : {S : Type 0} → (S → S → List ℕ → Result ℕ Error → Type 0) → S → S → Put → List ℕ → Type 0
+-- these bytes were written to a stream once, and the link's answer is what the system's is
+abbrev pub HearsWrite : {S : Type 0} → (S → S → List ℕ → Result ℕ Error → Type 0) → S → S → Put → List ℕ
+    → Type 0
 HearsWrite writes old new answer piece =
     (heard : Result ℕ Error) × writes old new piece heard × (answer ≡ put_of heard)

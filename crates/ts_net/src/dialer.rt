@@ -53,8 +53,8 @@ impl<'a, R: Net> Connector for SystemConnector<'a, R> {
     }
 }
 
-/// What comes of a dial. Until the connection stands, reads and writes of its link answer `Again`; if it comes
-/// to nothing, they answer `Failed`.
+/// What comes of a dial. Until the connection stands, reads and writes of its link answer `Again`; if it
+/// never does, they answer `Failed`.
 #[derive(Drop)]
 pub enum Dialing<S> {
     Origin(StreamLink<S>),

@@ -2,7 +2,7 @@
 //! alone, while what the peer still sends is read and passed over. (RFC 9112, section 9.6.)
 ghost use Rattle.std.specs.Prelude.{◌≡◌, ◌<◌, length, nat_le};
 ghost use Rattle.ts_net.specs.Lingers.{PassesOver, may_send};
-ghost use Rattle.ts_net.specs.Moments.{later};
+ghost use Rattle.ts_net.specs.Moments.{moment_after};
 
 use crate::heard::got_of;
 use crate::stream::Stream;
@@ -29,7 +29,7 @@ impl<S: Stream> HalfClosed<S> {
     /// Shuts the write side of a connection at this moment.
     pub fn of(stream: S, moment: u64) -> HalfClosed<S>
         ensures shut { S.shuts stream result.stream }
-        ensures until { result.until ≡ later moment LINGER }
+        ensures until { result.until ≡ moment_after moment LINGER }
     {
         let mut stream = stream;
         stream.end_sending();

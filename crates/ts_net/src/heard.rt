@@ -1,7 +1,7 @@
 //! What the system's answers to a call on a socket are to a link and to who listens.
 ghost use Rattle.std.specs.Prelude.{◌≡◌};
 ghost use Rattle.std.specs.IoError.{error_kind, raw_os_error};
-ghost use Rattle.ts_net.specs.Heard.{got_of, is_final, is_final_code, is_lack, is_wait, put_of};
+ghost use Rattle.ts_net.specs.Heard.{got_of, is_final, is_final_code, lacks_memory, would_wait, put_of};
 
 use std::io;
 use std::io::ErrorKind;
@@ -15,15 +15,15 @@ const NOT_LISTENING: i32 = 22;
 const NO_SOCKET: i32 = 88;
 
 // Whether the call would have waited, or was broken off by a signal.
-fn is_wait(kind: ErrorKind) -> bool
-    ensures { result ≡ is_wait kind }
+fn would_wait(kind: ErrorKind) -> bool
+    ensures { result ≡ would_wait kind }
 {
     matches!(kind, ErrorKind::WouldBlock | ErrorKind::Interrupted)
 }
 
 // Whether memory was lacking.
-fn is_lack(kind: ErrorKind) -> bool
-    ensures { result ≡ is_lack kind }
+fn lacks_memory(kind: ErrorKind) -> bool
+    ensures { result ≡ lacks_memory kind }
 {
     matches!(kind, ErrorKind::OutOfMemory)
 }
@@ -36,7 +36,7 @@ pub fn got_of(read: io::Result<usize>) -> Got
         Ok(0) => Got::End,
         Ok(count) => Got::Bytes(count),
         Err(error) => {
-            if is_wait(error.kind()) {
+            if would_wait(error.kind()) {
                 Got::Again
             } else {
                 Got::Failed
@@ -54,9 +54,9 @@ pub fn put_of(written: io::Result<usize>) -> Put
         Ok(0) => Put::Failed,
         Ok(count) => Put::Took(count),
         Err(error) => {
-            if is_wait(error.kind()) {
+            if would_wait(error.kind()) {
                 Put::Again
-            } else if is_lack(error.kind()) {
+            } else if lacks_memory(error.kind()) {
                 Put::NoMemory
             } else {
                 Put::Failed

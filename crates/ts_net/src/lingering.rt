@@ -1,6 +1,6 @@
 //! Clients that were answered, and linger until they have their answer.
 ghost use Rattle.std.specs.Prelude.{◌≡◌, ◌≢◌, ◌<◌, ◌≤◌, [], length, IfOk, OnOk, OnErr};
-ghost use Rattle.ts_net.specs.Lingers.{Keeps, LooksAt, PassesOne, PassesOver, in_time, with_room};
+ghost use Rattle.ts_net.specs.Lingers.{KeepsOne, LooksAt, PassesOne, PassesOver, in_time, with_room};
 
 use crate::half_closed::HalfClosed;
 use crate::stream::Stream;
@@ -115,10 +115,10 @@ impl<S: Stream + Drop> Lingering<S> {
         self.waiting.len()
     }
 
-    /// Shuts the write side of a client's connection at this moment, and keeps it. Where as many linger as may,
-    /// the one that came first is closed. At want of memory the connection is closed.
+    /// Shuts the write side of a client's connection at this moment, and keeps it. Where as many linger as
+    /// may, the one that came first is closed. At want of memory the connection is closed.
     pub fn keep(&mut self, client: StreamLink<S>, moment: u64) -> Result<(), NoMemory>
-        ensures kept { OnOk result (Keeps S.shuts client.stream moment self.old self.new) }
+        ensures kept { OnOk result (KeepsOne S.shuts client.stream moment self.old self.new) }
         ensures lack { OnErr result (self.new.waiting ≡ with_room self.old.waiting) }
         ensures turn { self.new.turn ≡ self.old.turn }
     {
