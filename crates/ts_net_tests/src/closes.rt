@@ -9,8 +9,7 @@ use std::test::Fail;
 use std::{io, time};
 use ts_link::{Clock, Got, Link, Put};
 use ts_net::{
-    HalfClosed, LINGER, Lingering, MOST_LINGERING, MonotonicClock, PASSED_AT_ONCE, SocketLink,
-    Stream, StreamLink,
+    HalfClosed, LINGER, Lingering, MOST_LINGERING, MonotonicClock, SocketLink, Stream, StreamLink,
 };
 
 // How long the answer is. Of so much the system drops the greater part where a connection is closed over bytes
@@ -182,16 +181,16 @@ fn a_connection_that_is_half_closed_is_read_on(rt: HostRuntime) -> Result<(), Fa
     let (mut client, served) = pair(&rt)?;
     let mut half = HalfClosed::of(served.into_stream(), 7);
     assert!(rt; !half.is_over(LINGER + 6) && half.is_over(LINGER + 7));
-    let mut room = vec![in rt.alloc(); 0u8; PASSED_AT_ONCE]?;
+    let mut room = [0u8; 64];
     assert!(rt; read_waiting(&rt, &mut client, &mut [0]) == Got::End);
-    assert!(rt; half.pass_over(room.as_mut_slice()));
+    assert!(rt; half.pass_over(&mut room));
     assert!(rt; client.write(b"late") == Put::Took(4));
-    assert!(rt; half.pass_over(room.as_mut_slice()));
+    assert!(rt; half.pass_over(&mut room));
     drop(client);
     clock.pause(5);
     let mut more = true;
     for _ in 0..4 {
-        more = more && half.pass_over(room.as_mut_slice());
+        more = more && half.pass_over(&mut room);
     }
     assert!(rt; !more);
     Ok(())
