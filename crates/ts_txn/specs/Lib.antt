@@ -4,5 +4,8 @@ pub mod Driven
 pub mod EventsOwed
 pub mod LoweringCourse
 pub mod Making
+pub mod MemNet
+pub mod Net
+pub mod PairStock
 pub mod Resting
 pub mod World

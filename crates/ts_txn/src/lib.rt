@@ -7,9 +7,16 @@ mod course;
 mod course_events;
 mod course_leads;
 mod making;
+mod mem_net;
+mod net;
+mod pair_stock;
+mod retired;
 mod txn;
 
 pub use making::{MOST_GROUPS, MOST_PLUGINS, TxnParts};
+pub use mem_net::MemNet;
+pub use net::{Accepted, Began, Dialed, Net, NetCounts};
+pub use retired::Retired;
 pub use ts_block::{
     Block, OwnStatus, acts_on, apply_rules, block_of, client_framing, is_denied, one_block,
 };

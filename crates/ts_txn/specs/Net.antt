@@ -1,0 +1,106 @@
+-- What contracts see of a net, and what each of its answers says.
+use Rattle.std.specs.Prelude.{◌≡◌, ℕ, ◌+◌, ◌++◌, List, [], ◌∷◌, Bool, true, false, ⊤}
+use Rattle.ts_link.specs.Counts.{Counted}
+use Rattle.ts_link.specs.Link.{Look}
+use Rattle.ts_link.specs.declared.link.Link as link
+use Rattle.ts_upstream.specs.declared.upstream.Upstream as upstream
+use Rattle.ts_txn.specs.Making.{IsNewLink}
+use Rattle.ts_txn.specs.declared.net.Accepted.{Accepted}
+use Rattle.ts_txn.specs.declared.net.Accepted.TheVariants as A
+use Rattle.ts_txn.specs.declared.net.Began.{Began}
+use Rattle.ts_txn.specs.declared.net.Began.TheVariants as B
+use Rattle.ts_txn.specs.declared.net.Dialed.{Dialed}
+use Rattle.ts_txn.specs.declared.net.Dialed.TheVariants as D
+use Rattle.ts_txn.specs.declared.net.NetCounts.{NetCounts}
+use Rattle.ts_txn.specs.declared.retired.Retired.{Retired}
+
+-- What is seen of a net: how many clients it gave, how many transactions it was handed and, where it tells,
+-- what was left of each, in order; and how many answers of each kind it gave.
+pub record NetSeen (C O : Type 0) : Type 0 where
+  pub given : ℕ
+  pub handed : ℕ
+  pub retired : List (Retired C O)
+  pub counts : NetCounts
+
+-- a net that gave no client and was handed nothing
+pub record IsFreshNet {C O : Type 0} (net : NetSeen C O) : Type 0 where
+  pub given : net.given ≡ 0
+  pub handed : net.handed ≡ 0
+  pub retired : net.retired ≡ []
+
+-- which counts an answer raises
+pub record Raised : Type 0 where
+  pub faults : Bool
+  pub misdials : Bool
+  pub waits : Bool
+  pub ends : Bool
+
+abbrev pub raises_none : Raised
+raises_none = record { faults = false; misdials = false; waits = false; ends = false }
+
+abbrev pub raised_by_begin : Began → Raised
+raised_by_begin B.Ready = raises_none
+raised_by_begin B.Failed = record raises_none { faults = true }
+raised_by_begin B.NoMemory = raises_none
+
+abbrev pub raised_by_accept : {C : Type 0} → Accepted C → Raised
+raised_by_accept (A.Client c) = raises_none
+raised_by_accept A.Again = record raises_none { waits = true }
+raised_by_accept A.Closed = record raises_none { ends = true }
+raised_by_accept A.Failed = record raises_none { faults = true }
+
+abbrev pub raised_by_dial : {O : Type 0} → Dialed O → Raised
+raised_by_dial (D.Origin o) = raises_none
+raised_by_dial D.Failed = record raises_none { misdials = true }
+
+-- each count rises with the answers that it counts, and with no other
+pub record CountsRise (raised : Raised) (old new : NetCounts) : Type 0 where
+  pub faults : Counted raised.faults old.faults new.faults
+  pub misdials : Counted raised.misdials old.misdials new.misdials
+  pub waits : Counted raised.waits old.waits new.waits
+  pub ends : Counted raised.ends old.ends new.ends
+
+-- it was handed nothing
+pub record IsHandedNothing {C O : Type 0} (old new : NetSeen C O) : Type 0 where
+  pub handed : new.handed ≡ old.handed
+  pub retired : new.retired ≡ old.retired
+
+-- it gave no client and was handed nothing
+pub record GivesNobody {C O : Type 0} (old new : NetSeen C O) : Type 0 where
+  pub given : new.given ≡ old.given
+  pub handed : IsHandedNothing old new
+
+-- it was handed what is left of this transaction
+pub record IsHanded {C O : Type 0} (tells : Bool) (retired : Retired C O) (old new : NetSeen C O) :
+    Type 0 where
+  pub handed : new.handed ≡ old.handed + 1
+  pub told : tells ≡ true → new.retired ≡ old.retired ++ retired ∷ []
+  pub given : new.given ≡ old.given
+  pub counts : new.counts ≡ old.counts
+
+-- The client that comes after so many: its name is its number among all that were given and, where it tells,
+-- it gave and took nothing.
+pub record IsNextClient (tells : Bool) (client : Look) (before given : ℕ) : Type 0 where
+  pub number : given ≡ before + 1
+  pub name : client.name ≡ given
+  pub unused : tells ≡ true → IsNewLink client
+
+-- how many clients were given before and after an accept
+abbrev pub GivesClient : {C : Type 0} → link.Ghosts C → Accepted C → ℕ → ℕ → Type 0
+GivesClient client (A.Client c) before given = IsNextClient client.tells (client.look c) before given
+GivesClient client A.Again before given = given ≡ before
+GivesClient client A.Closed before given = given ≡ before
+GivesClient client A.Failed before given = given ≡ before
+
+module _ {C O : Type 0} (origin : link.Ghosts O) (both : upstream.Ghosts O C) where
+  -- The origin of a client: where it tells, it gave and took nothing; it belongs to any client, and refuses no
+  -- upload.
+  pub record IsNextOrigin (o : O) : Type 0 where
+    pub unused : origin.tells ≡ true → IsNewLink (origin.look o)
+    pub paired : (c : C) → both.paired c o
+    pub takes : (list : List ℕ) → both.refuses o list → ⊥
+
+  -- what a dial gives
+  abbrev pub GivesOrigin : Dialed O → Type 0
+  GivesOrigin (D.Origin o) = IsNextOrigin o
+  GivesOrigin D.Failed = ⊤

@@ -1,0 +1,168 @@
+//! A net in memory.
+ghost use Rattle.std.specs.Prelude.{◌≡◌, true, OnOk, OnErr};
+ghost use Rattle.std.specs.List.{All};
+ghost use Rattle.ts_link.specs.Numbered.{is_listed};
+ghost use Rattle.ts_txn.specs.MemNet.{accept_answer, after_accept, after_dial, after_retire, dial_answer, fresh_net, seen_of};
+ghost use Rattle.ts_txn.specs.Net.{CountsRise, GivesClient, GivesNobody, GivesOrigin, IsFreshNet, IsHanded, IsHandedNothing, raised_by_accept, raised_by_begin, raised_by_dial};
+ghost use Rattle.ts_txn.specs.PairStock.{IsNewPair};
+ghost use Rattle.ts_upstream.specs.InMemory.{memory_link, memory_origin};
+
+use crate::net::{Accepted, Began, Dialed, Net, NetCounts};
+use crate::pair_stock::PairStock;
+use crate::retired::Retired;
+use std::alloc::Global;
+use std::marker::Model;
+use ts_link::{MemLink, NoMemory};
+
+/// A net in memory: it gives links in memory in their order, fails or has its caller wait exactly where it
+/// was told to, and keeps what it is handed.
+#[derive(Drop)]
+pub struct MemNet {
+    stock: PairStock,
+    failing: Vec<u64>,
+    again: Vec<u64>,
+    // How many accept calls were made.
+    accepts: u64,
+    retired: Vec<Retired<MemLink, MemLink>>,
+    counts: NetCounts,
+}
+
+impl Model for MemNet {
+    ghost use Rattle.ts_txn.specs.MemNet.{NetState};
+
+    ghost Value = { NetState };
+
+    ghost view = { λ s. record {
+      stock = s.stock;
+      accepts = record { fail = s.failing.items; again = s.again.items; made = s.accepts };
+      retired = s.retired.items;
+      counts = s.counts;
+    } };
+}
+
+// Whether the accept call after so many has a number of the list.
+fn is_listed(made: u64, numbers: &[u64]) -> bool
+    ensures { result ≡ is_listed made numbers.now }
+{
+    match made.checked_add(1) {
+        Some(number) => numbers.contains(&number),
+        None => false,
+    }
+}
+
+impl MemNet {
+    /// A net that gives the clients of these pairs in their order and then is closed. Where a pair has no
+    /// origin, the dial for its client fails. Accept calls are numbered from 1: those of the numbers in
+    /// `failing` fail, of the others those in `again` wait, and neither uses up a pair. No link was used.
+    pub fn make(
+        alloc: Global,
+        pairs: Vec<(MemLink, Option<MemLink>)>,
+        again: Vec<u64>,
+        failing: Vec<u64>,
+    ) -> MemNet
+        requires { All IsNewPair pairs.items }
+        ensures made { result ≡ fresh_net pairs.items again.items failing.items }
+        ensures fresh { IsFreshNet (seen_of result) }
+    {
+        MemNet {
+            stock: PairStock::make(pairs),
+            failing,
+            again,
+            accepts: 0,
+            retired: Vec::new(alloc),
+            counts: NetCounts {
+                faults: 0,
+                misdials: 0,
+                waits: 0,
+                ends: 0,
+            },
+        }
+    }
+
+    /// What it was handed, in order.
+    pub fn retired(&self) -> &[Retired<MemLink, MemLink>]
+        ensures { result.now ≡ self.now.retired }
+    {
+        self.retired.as_slice()
+    }
+
+    /// How many answers of each kind it has given.
+    pub fn counts(&self) -> NetCounts
+        ensures { result ≡ self.now.counts }
+    {
+        self.counts
+    }
+}
+
+impl Net for MemNet {
+    type Client = MemLink;
+
+    type Origin = MemLink;
+
+    ghost tells = { true };
+
+    ghost seen = { seen_of };
+
+    fn begin(&mut self, _listen: &str, _origin: &str) -> Began
+        ensures nobody { GivesNobody (seen_of self.old) (seen_of self.new) }
+        ensures counts { CountsRise (raised_by_begin result) (seen_of self.old).counts (seen_of self.new).counts }
+        ensures ready { result ≡ Began.Ready }
+        ensures same { self.new ≡ self.old }
+    {
+        Began::Ready
+    }
+
+    fn accept(&mut self) -> Accepted<MemLink>
+        ensures client { GivesClient memory_link result (seen_of self.old).given (seen_of self.new).given }
+        ensures handed { IsHandedNothing (seen_of self.old) (seen_of self.new) }
+        ensures counts { CountsRise (raised_by_accept result)
+            (seen_of self.old).counts (seen_of self.new).counts }
+        ensures answer { result ≡ accept_answer self.old }
+        ensures after { self.new ≡ after_accept self.old result }
+    {
+        let fails = is_listed(self.accepts, self.failing.as_slice());
+        let waits = is_listed(self.accepts, self.again.as_slice());
+        self.accepts = self.accepts.saturating_add(1);
+        if fails {
+            self.counts.faults = self.counts.faults.saturating_add(1);
+            return Accepted::Failed;
+        }
+        if waits {
+            self.counts.waits = self.counts.waits.saturating_add(1);
+            return Accepted::Again;
+        }
+        match self.stock.next() {
+            Some(client) => Accepted::Client(client),
+            None => {
+                self.counts.ends = self.counts.ends.saturating_add(1);
+                Accepted::Closed
+            }
+        }
+    }
+
+    fn dial(&mut self) -> Dialed<MemLink>
+        ensures origin { GivesOrigin memory_link memory_origin result }
+        ensures nobody { GivesNobody (seen_of self.old) (seen_of self.new) }
+        ensures counts { CountsRise (raised_by_dial result)
+            (seen_of self.old).counts (seen_of self.new).counts }
+        ensures answer { result ≡ dial_answer self.old }
+        ensures after { self.new ≡ after_dial self.old result }
+    {
+        match self.stock.take_origin() {
+            Some(origin) => Dialed::Origin(origin),
+            None => {
+                self.counts.misdials = self.counts.misdials.saturating_add(1);
+                Dialed::Failed
+            }
+        }
+    }
+
+    fn retire(&mut self, retired: Retired<MemLink, MemLink>) -> Result<(), NoMemory>
+        ensures ok { OnOk result (IsHanded true retired (seen_of self.old) (seen_of self.new)) }
+        ensures err { OnErr result (self.new ≡ self.old) }
+        ensures after { OnOk result (self.new ≡ after_retire self.old retired) }
+    {
+        self.retired.push(retired)?;
+        Ok(())
+    }
+}

@@ -1,0 +1,80 @@
+//! The net, from which clients come, over which an origin is dialed for each of them, and to which what is
+//! left of their transactions is handed.
+ghost use Rattle.std.specs.Prelude.{◌≡◌, Bool, OnOk, OnErr};
+ghost use Rattle.ts_txn.specs.Net.{CountsRise, GivesClient, GivesNobody, GivesOrigin, IsHanded, IsHandedNothing, NetSeen, raised_by_accept, raised_by_begin, raised_by_dial};
+
+use crate::retired::Retired;
+use ts_link::{Link, NoMemory};
+use ts_upstream::Upstream;
+
+/// What comes of beginning to listen.
+#[derive(Clone, Copy, Debug, PartialEq, Eq)]
+pub enum Began {
+    Ready,
+    Failed,
+    NoMemory,
+}
+
+/// What comes of accepting. `Again` where no client is there yet, `Closed` where none comes any more.
+#[derive(Drop)]
+pub enum Accepted<C> {
+    Client(C),
+    Again,
+    Closed,
+    Failed,
+}
+
+/// What comes of dialing the origin.
+#[derive(Drop)]
+pub enum Dialed<O> {
+    Origin(O),
+    Failed,
+}
+
+/// How many answers of each kind a net has given. A count stays at the greatest `u64`.
+#[derive(Clone, Copy, Debug, PartialEq, Eq)]
+pub struct NetCounts {
+    /// How often beginning or accepting was `Failed`.
+    pub faults: u64,
+    /// How often dialing was `Failed`.
+    pub misdials: u64,
+    /// How often accepting was `Again`.
+    pub waits: u64,
+    /// How often accepting was `Closed`.
+    pub ends: u64,
+}
+
+/// Gives clients and origins, and takes what is left of their transactions.
+pub trait Net {
+    type Client: Link + Drop + Send;
+
+    type Origin: Upstream<Self::Client> + Drop + Send;
+
+    // Whether contracts see what it was handed. How much that was, they see of any net.
+    ghost tells: { Bool };
+
+    // How many clients it gave, what it was handed, and its counts.
+    ghost seen: { Self → NetSeen Self.Client Self.Origin };
+
+    /// Begins to listen for clients at the first address, whose origin is at the second one.
+    fn begin(&mut self, listen: &str, origin: &str) -> Began
+        ensures nobody { GivesNobody (seen self.old) (seen self.new) }
+        ensures counts { CountsRise (raised_by_begin result) (seen self.old).counts (seen self.new).counts };
+
+    /// The next client, if one is there. The k-th client that it gives, counted from 1, has the name k.
+    fn accept(&mut self) -> Accepted<Self::Client>
+        ensures client { GivesClient Self.Client.Link result (seen self.old).given (seen self.new).given }
+        ensures handed { IsHandedNothing (seen self.old) (seen self.new) }
+        ensures counts { CountsRise (raised_by_accept result) (seen self.old).counts (seen self.new).counts };
+
+    /// The origin of the client that came last. It belongs to any client.
+    fn dial(&mut self) -> Dialed<Self::Origin>
+        ensures origin { GivesOrigin Self.Origin.Link Self.Origin.Upstream.own result }
+        ensures nobody { GivesNobody (seen self.old) (seen self.new) }
+        ensures counts { CountsRise (raised_by_dial result) (seen self.old).counts (seen self.new).counts };
+
+    /// Takes what is left of a transaction. At want of memory it is dropped.
+    fn retire(&mut self, retired: Retired<Self::Client, Self::Origin>) -> Result<(), NoMemory>
+        ensures ok { OnOk result (IsHanded tells retired (seen self.old) (seen self.new)) }
+        ensures err { OnErr result (seen self.new ≡ seen self.old) };
+}
