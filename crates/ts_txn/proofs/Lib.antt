@@ -5,6 +5,7 @@ pub mod Coursing
 pub mod Coverage
 pub mod Events
 pub mod Fitting
+pub mod Giving
 pub mod Handling
 pub mod Leading
 pub mod LoweringCourse

@@ -54,11 +54,11 @@ raised_by_dial (D.Origin o) = raises_none
 raised_by_dial D.Failed = record raises_none { misdials = true }
 
 -- each count rises with the answers that it counts, and with no other
-pub record CountsRise (raised : Raised) (old new : NetCounts) : Type 0 where
-  pub faults : Counted raised.faults old.faults new.faults
-  pub misdials : Counted raised.misdials old.misdials new.misdials
-  pub waits : Counted raised.waits old.waits new.waits
-  pub ends : Counted raised.ends old.ends new.ends
+pub record CountsRise {C O : Type 0} (raised : Raised) (old new : NetSeen C O) : Type 0 where
+  pub faults : Counted raised.faults old.counts.faults new.counts.faults
+  pub misdials : Counted raised.misdials old.counts.misdials new.counts.misdials
+  pub waits : Counted raised.waits old.counts.waits new.counts.waits
+  pub ends : Counted raised.ends old.counts.ends new.counts.ends
 
 -- it was handed nothing
 pub record IsHandedNothing {C O : Type 0} (old new : NetSeen C O) : Type 0 where
@@ -85,12 +85,12 @@ pub record IsNextClient (tells : Bool) (client : Look) (before given : ℕ) : Ty
   pub name : client.name ≡ given
   pub unused : tells ≡ true → IsNewLink client
 
--- how many clients were given before and after an accept
-abbrev pub GivesClient : {C : Type 0} → link.Ghosts C → Accepted C → ℕ → ℕ → Type 0
-GivesClient client (A.Client c) before given = IsNextClient client.tells (client.look c) before given
-GivesClient client A.Again before given = given ≡ before
-GivesClient client A.Closed before given = given ≡ before
-GivesClient client A.Failed before given = given ≡ before
+-- an accept gives the next client, or none
+abbrev pub GivesClient : {C O : Type 0} → link.Ghosts C → Accepted C → NetSeen C O → NetSeen C O → Type 0
+GivesClient client (A.Client c) old new = IsNextClient client.tells (client.look c) old.given new.given
+GivesClient client A.Again old new = new.given ≡ old.given
+GivesClient client A.Closed old new = new.given ≡ old.given
+GivesClient client A.Failed old new = new.given ≡ old.given
 
 module _ {C O : Type 0} (origin : link.Ghosts O) (both : upstream.Ghosts O C) where
   -- The origin of a client: where it tells, it gave and took nothing; it belongs to any client, and refuses no

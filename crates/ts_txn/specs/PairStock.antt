@@ -24,8 +24,8 @@ pub record Stock : Type 0 where
 
 -- no link in it was used, and the number of each client is a u64
 pub record IsSoundStock (ahead : List Pair) (origin : Option LinkState) (given : ℕ) : Type 0 where
-  pub ahead : All IsNewPair ahead
-  pub origin : IsNewLinkIf look_of origin
+  pub new_ahead : All IsNewPair ahead
+  pub new_origin : IsNewLinkIf look_of origin
   pub numbers : given + length ahead ≤ greatest
 
 -- a stock of which nothing was given

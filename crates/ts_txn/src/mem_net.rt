@@ -105,7 +105,7 @@ impl Net for MemNet {
 
     fn begin(&mut self, _listen: &str, _origin: &str) -> Began
         ensures nobody { GivesNobody (seen_of self.old) (seen_of self.new) }
-        ensures counts { CountsRise (raised_by_begin result) (seen_of self.old).counts (seen_of self.new).counts }
+        ensures counts { CountsRise (raised_by_begin result) (seen_of self.old) (seen_of self.new) }
         ensures ready { result ≡ Began.Ready }
         ensures same { self.new ≡ self.old }
     {
@@ -113,10 +113,9 @@ impl Net for MemNet {
     }
 
     fn accept(&mut self) -> Accepted<MemLink>
-        ensures client { GivesClient memory_link result (seen_of self.old).given (seen_of self.new).given }
+        ensures client { GivesClient memory_link result (seen_of self.old) (seen_of self.new) }
         ensures handed { IsHandedNothing (seen_of self.old) (seen_of self.new) }
-        ensures counts { CountsRise (raised_by_accept result)
-            (seen_of self.old).counts (seen_of self.new).counts }
+        ensures counts { CountsRise (raised_by_accept result) (seen_of self.old) (seen_of self.new) }
         ensures answer { result ≡ accept_answer self.old }
         ensures after { self.new ≡ after_accept self.old result }
     {
@@ -143,8 +142,7 @@ impl Net for MemNet {
     fn dial(&mut self) -> Dialed<MemLink>
         ensures origin { GivesOrigin memory_link memory_origin result }
         ensures nobody { GivesNobody (seen_of self.old) (seen_of self.new) }
-        ensures counts { CountsRise (raised_by_dial result)
-            (seen_of self.old).counts (seen_of self.new).counts }
+        ensures counts { CountsRise (raised_by_dial result) (seen_of self.old) (seen_of self.new) }
         ensures answer { result ≡ dial_answer self.old }
         ensures after { self.new ≡ after_dial self.old result }
     {

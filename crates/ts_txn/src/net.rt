@@ -59,19 +59,19 @@ pub trait Net {
     /// Begins to listen for clients at the first address, whose origin is at the second one.
     fn begin(&mut self, listen: &str, origin: &str) -> Began
         ensures nobody { GivesNobody (seen self.old) (seen self.new) }
-        ensures counts { CountsRise (raised_by_begin result) (seen self.old).counts (seen self.new).counts };
+        ensures counts { CountsRise (raised_by_begin result) (seen self.old) (seen self.new) };
 
     /// The next client, if one is there. The k-th client that it gives, counted from 1, has the name k.
     fn accept(&mut self) -> Accepted<Self::Client>
-        ensures client { GivesClient Self.Client.Link result (seen self.old).given (seen self.new).given }
+        ensures client { GivesClient Self.Client.Link result (seen self.old) (seen self.new) }
         ensures handed { IsHandedNothing (seen self.old) (seen self.new) }
-        ensures counts { CountsRise (raised_by_accept result) (seen self.old).counts (seen self.new).counts };
+        ensures counts { CountsRise (raised_by_accept result) (seen self.old) (seen self.new) };
 
     /// The origin of the client that came last. It belongs to any client.
     fn dial(&mut self) -> Dialed<Self::Origin>
         ensures origin { GivesOrigin Self.Origin.Link Self.Origin.Upstream.own result }
         ensures nobody { GivesNobody (seen self.old) (seen self.new) }
-        ensures counts { CountsRise (raised_by_dial result) (seen self.old).counts (seen self.new).counts };
+        ensures counts { CountsRise (raised_by_dial result) (seen self.old) (seen self.new) };
 
     /// Takes what is left of a transaction. At want of memory it is dropped.
     fn retire(&mut self, retired: Retired<Self::Client, Self::Origin>) -> Result<(), NoMemory>
