@@ -15,7 +15,8 @@ pub enum Began {
     NoMemory,
 }
 
-/// What comes of accepting. `Again` where no client is there yet, `Closed` where none comes any more.
+/// What comes of accepting. `Again` where no client is there yet, `Closed` where none comes any more. Each
+/// answer but `Client` is counted.
 #[derive(Drop)]
 pub enum Accepted<C> {
     Client(C),
@@ -56,7 +57,7 @@ pub trait Net {
     // How many clients it gave, what it was handed, and its counts.
     ghost seen: { Self → NetSeen Self.Client Self.Origin };
 
-    /// Begins to listen for clients at the first address, whose origin is at the second one.
+    /// Begins to listen for clients at the first address, each of which has its origin at the second one.
     fn begin(&mut self, listen: &str, origin: &str) -> Began
         ensures nobody { GivesNobody (seen self.old) (seen self.new) }
         ensures counts { CountsRise (raised_by_begin result) (seen self.old) (seen self.new) };
@@ -67,13 +68,13 @@ pub trait Net {
         ensures handed { IsHandedNothing (seen self.old) (seen self.new) }
         ensures counts { CountsRise (raised_by_accept result) (seen self.old) (seen self.new) };
 
-    /// The origin of the client that came last. It belongs to any client.
+    /// The origin of the client that came last. It belongs to any client, and refuses no upload.
     fn dial(&mut self) -> Dialed<Self::Origin>
         ensures origin { GivesOrigin Self.Origin.Link Self.Origin.Upstream.own result }
         ensures nobody { GivesNobody (seen self.old) (seen self.new) }
         ensures counts { CountsRise (raised_by_dial result) (seen self.old) (seen self.new) };
 
-    /// Takes what is left of a transaction. At want of memory it is dropped.
+    /// Takes what is left of a transaction, and counts it. At want of memory it is dropped.
     fn retire(&mut self, retired: Retired<Self::Client, Self::Origin>) -> Result<(), NoMemory>
         ensures ok { OnOk result (IsHanded tells retired (seen self.old) (seen self.new)) }
         ensures err { OnErr result (seen self.new ≡ seen self.old) };

@@ -1,6 +1,6 @@
 //! Nets in memory: which clients come and in which order, which dials and accepts fail or wait, and what is
 //! kept of the transactions that were handed over.
-ghost use Rattle.std.specs.Prelude.{true, IfOk, IfSome};
+ghost use Rattle.std.specs.Prelude.{◌≡◌, true, IfOk, IfSome};
 ghost use Rattle.std.specs.List.{All};
 ghost use Rattle.ts_txn.specs.Making.{ArePaired, IsNewLink, IsNewLinkIf};
 ghost use Rattle.ts_txn.specs.PairStock.{IsNewPair};
@@ -64,10 +64,7 @@ fn add_pair(
 }
 
 // The links of the rows, in order.
-fn pairs_of(
-    alloc: Global,
-    rows: &[Row<'_>],
-) -> Result<Vec<(MemLink, Option<MemLink>)>, Refusal>
+fn pairs_of(alloc: Global, rows: &[Row<'_>]) -> Result<Vec<(MemLink, Option<MemLink>)>, Refusal>
     ensures { IfOk result (λ pairs. All IsNewPair pairs.items) }
 {
     let mut pairs = Vec::new(alloc);
