@@ -10,18 +10,22 @@ use Rattle.std.specs.Char.{encode_utf8, len_utf8}
 use Rattle.std.proofs.lemmas.Str.{length-encode, byte_from_char}
 use Rattle.std.proofs.lemmas.Bool.{cases_lt}
 use Rattle.std.proofs.lemmas.Bool.Decides.{nat_tests}
+use Rattle.ts_config.specs.declared.fields.PluginLine.{PluginLine}
 use Rattle.ts_config.specs.declared.setup.TransformLine.{TransformLine}
 use Rattle.ts_config.specs.declared.setup.TransformLine.TheVariants as t
 use Rattle.ts_config.specs.declared.setup.LineMeaning.{LineMeaning}
-use Rattle.ts_config.specs.declared.setup.LineMeaning.TheVariants.{Empty, Transform}
+use Rattle.ts_config.specs.declared.setup.LineMeaning.TheVariants.{Empty, Transform, Plugin}
 use Rattle.ts_config.specs.declared.table.PluginName.{PluginName}
 use Rattle.ts_config.specs.Lines.{config_lines}
 use Rattle.ts_config.specs.Numerals.{hex_value, byte_of, number_of, has_no_leading_zero}
-use Rattle.ts_config.specs.Setup.{untexted, HasFileName}
-use Rattle.ts_config.specs.Reading.{Means, transforms_in, ComeFromText}
+use Rattle.ts_config.specs.Setup.{ConfigLines, untexted, HasFileName}
+use Rattle.ts_config.specs.Reading.{Means, transforms_in, plugins_in, ComeFromText}
+use Rattle.ts_config.specs.Rules.{HasPlainRule}
+use Rattle.ts_config.specs.Table.{all_names}
 use Rattle.ts_config.proofs.Again.{hex_small}
-use Rattle.ts_config.proofs.Asked.{Asks, asked, entry_asked, mapped, chained, chosen}
+use Rattle.ts_config.proofs.Asked.{Asks, asked, entry_asked, entry_hooked, mapped, chained, chosen}
 use Rattle.ts_config.proofs.FineWords.{IsFine, words_fine}
+use Rattle.ts_config.proofs.Hooked.{IsPrintablePlugin, hooked_plain, hooked_printable}
 use Rattle.ts_config.proofs.Meanings.{in_words}
 use Rattle.ts_config.proofs.TextParts.{text-from, both}
 
@@ -94,20 +98,35 @@ asked_printable (t.Drop b) name words (named, (byte, are, first)) fine =
     byte_small byte b one.text.utf8 first
 asked_printable (t.Delay m) name words (named, (ms, are, first)) fine = number_small 60000 ms m first
 
-line_printable : (line : List ℕ) (l : TransformLine) → Means line (Ok (Transform l)) → IsPrintable l
-line_printable line l means =
-    let (text, found) = in_words line (Transform l) means in
-    let (name, first, others, split, named, some) = entry_asked found.0 l found.2 in
-    let fine = subst (AllByRecursion IsFine) split (words_fine found.0 line (text-from line text) found.1) in
-    asked_printable l name others (asked name others l some) fine.1
+module _ (names : List PluginName) where
+  line_printable : (line : List ℕ) (l : TransformLine) → Means names line (Ok (Transform l)) → IsPrintable l
+  line_printable line l means =
+      let (text, found) = in_words names line (Transform l) means in
+      let (name, first, others, split, named, some) = entry_asked names found.0 l found.2 in
+      let fine = subst (AllByRecursion IsFine) split
+      (words_fine found.0 line (text-from line text) found.1) in
+      asked_printable l name others (asked name others l some) fine.1
 
-lines_printable : (lines : List (List ℕ)) (es : List LineMeaning) → AllZip (λ l m. Means l (Ok m)) lines es
-    → AllByRecursion IsPrintable (transforms_in es)
-lines_printable [] [] each = tt
-lines_printable [] (e ∷ es) each = absurd each
-lines_printable (l ∷ ls) [] each = absurd each
-lines_printable (l ∷ ls) (Empty ∷ es) each = lines_printable ls es each.1
-lines_printable (l ∷ ls) (Transform t ∷ es) each = (line_printable l t each.0, lines_printable ls es each.1)
+  plugin_printable : (line : List ℕ) (p : PluginLine) → Means names line (Ok (Plugin p))
+      → IsPrintablePlugin p
+  plugin_printable line p means =
+      let (text, found) = in_words names line (Plugin p) means in
+      let (name, first, others, split, named, some) = entry_hooked names found.0 p found.2 in
+      let fine = subst (AllByRecursion IsFine) split
+      (words_fine found.0 line (text-from line text) found.1) in
+      hooked_printable name others p fine.1 some
+
+  lines_printable : (lines : List (List ℕ)) (es : List LineMeaning)
+      → AllZip (λ l m. Means names l (Ok m)) lines es
+      → AllByRecursion IsPrintable (transforms_in es) × AllByRecursion IsPrintablePlugin (plugins_in es)
+  lines_printable [] [] each = (tt, tt)
+  lines_printable [] (e ∷ es) each = absurd each
+  lines_printable (l ∷ ls) [] each = absurd each
+  lines_printable (l ∷ ls) (Empty ∷ es) each = lines_printable ls es each.1
+  lines_printable (l ∷ ls) (Transform t ∷ es) each =
+      let others = lines_printable ls es each.1 in ((line_printable l t each.0, others.0), others.1)
+  lines_printable (l ∷ ls) (Plugin p ∷ es) each =
+      let others = lines_printable ls es each.1 in (others.0, (plugin_printable l p each.0, others.1))
 
 -- the texts of files are left aside
 untexted_printable : (line : TransformLine) → IsPrintable (untexted line) → IsPrintable line
@@ -125,10 +144,15 @@ all_untexted [] are = tt
 all_untexted (l ∷ ls) are = (untexted_printable l are.0, all_untexted ls are.1)
 
 -- lines that come from text can be printed
-pub come_printable : (ls : List TransformLine) → ComeFromText ls → AllByRecursion IsPrintable ls
+pub come_printable : (ls : ConfigLines) → ComeFromText ls
+    → AllByRecursion IsPrintable ls.transforms × AllByRecursion IsPrintablePlugin ls.plugins
 come_printable ls from =
-    all_untexted ls (subst (AllByRecursion IsPrintable) (sym from.read.transforms_are)
-    (lines_printable (config_lines from.bytes) from.read.es from.read.read.each))
+    let are = lines_printable all_names (config_lines from.bytes) from.read.es from.read.read.each in (
+      all_untexted ls.transforms (subst (AllByRecursion IsPrintable)
+          (sym (ap (λ (xs : ConfigLines). xs.transforms) from.read.lines_are)) are.0),
+      subst (AllByRecursion IsPrintablePlugin)
+          (sym (ap (λ (xs : ConfigLines). xs.plugins) from.read.lines_are)) are.1,
+    )
 
 -- and the names of their files are text
 printable_named : (line : TransformLine) → IsPrintable line → HasFileName line
@@ -144,5 +168,15 @@ all_named : (ls : List TransformLine) → AllByRecursion IsPrintable ls → AllB
 all_named [] are = tt
 all_named (l ∷ ls) are = (printable_named l are.0, all_named ls are.1)
 
-pub come_named : (ls : List TransformLine) → ComeFromText ls → All HasFileName ls
-come_named ls from = All-from_recursion HasFileName ls (all_named ls (come_printable ls from))
+pub come_named : (ls : ConfigLines) → ComeFromText ls → All HasFileName ls.transforms
+come_named ls from =
+    All-from_recursion HasFileName ls.transforms (all_named ls.transforms (come_printable ls from).0)
+
+-- and their rules are plain
+all_plain : (ps : List PluginLine) → AllByRecursion IsPrintablePlugin ps → AllByRecursion HasPlainRule ps
+all_plain [] are = tt
+all_plain (p ∷ ps) are = (hooked_plain p are.0, all_plain ps are.1)
+
+pub come_plain : (ls : ConfigLines) → ComeFromText ls → All HasPlainRule ls.plugins
+come_plain ls from =
+    All-from_recursion HasPlainRule ls.plugins (all_plain ls.plugins (come_printable ls from).1)

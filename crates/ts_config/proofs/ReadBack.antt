@@ -1,6 +1,6 @@
 -- What is printed is read back.
-use Rattle.std.proofs.Common.{◌≡◌, ℕ, ◌/◌, ◌%◌, ◌^◌, ◌<◌, ◌≤◌, List, [], ◌∷◌, ◌++◌, length, map, Bool, true, false, cond, Some, None, Ok, Err, inl, refl, ap, sym, ◌∙◌, subst, arith}
-use Rattle.std.specs.Prelude.{◌==◌, nat_le, MatchBool}
+use Rattle.std.proofs.Common.{◌≡◌, ℕ, ◌/◌, ◌%◌, ◌^◌, ◌<◌, ◌≤◌, List, [], ◌∷◌, ◌++◌, length, map, Bool, true, false, cond, Some, None, Ok, Err, ◌⊎◌, inl, inr, refl, ap, sym, ◌∙◌, subst, arith, append_assoc}
+use Rattle.std.specs.Prelude.{◌==◌, flat_map, nat_le, MatchBool}
 use Rattle.std.specs.Option.{option_map, option_and_then}
 use Rattle.std.specs.List.{AllByRecursion, AllZip}
 use Rattle.std.specs.Fmt.{decimal}
@@ -10,21 +10,26 @@ use Rattle.std.specs.Str.Parse.{AllDigits}
 use Rattle.std.proofs.lemmas.Fmt.{decimal_is_IsNumeral}
 use Rattle.std.proofs.lemmas.Str.Parse.{digit_from_value}
 use Rattle.std.proofs.lemmas.Bool.Decides.{nat_tests}
+use Rattle.ts_config.specs.declared.fields.PluginLine.{PluginLine}
 use Rattle.ts_config.specs.declared.setup.TransformLine.{TransformLine}
 use Rattle.ts_config.specs.declared.setup.TransformLine.TheVariants as t
 use Rattle.ts_config.specs.declared.setup.ConfigKind.TheVariants as k
 use Rattle.ts_config.specs.declared.setup.LineMeaning.{LineMeaning}
-use Rattle.ts_config.specs.declared.setup.LineMeaning.TheVariants.{Transform}
+use Rattle.ts_config.specs.declared.setup.LineMeaning.TheVariants.{Transform, Plugin}
 use Rattle.ts_config.specs.declared.table.PluginName.{PluginName}
 use Rattle.ts_config.specs.declared.table.PluginName.TheVariants as n
 use Rattle.ts_config.specs.Numerals.{byte_of, byte_word, hex_digit}
-use Rattle.ts_config.specs.Printing.{spelled_words, line_name, line_arguments, printed}
-use Rattle.ts_config.specs.Reading.{is_text_byte, Means, MeansByWords, transforms_in, AreRead, IsConfiguration, ComeFromText}
-use Rattle.ts_config.specs.Setup.{untexted}
-use Rattle.ts_config.specs.Table.{spelling, name_of, transform_of, fitting, named_entry, line_entry}
+use Rattle.ts_config.specs.Lines.{config_lines}
+use Rattle.ts_config.specs.Printing.{spelled_words, line_name, line_arguments, plugin_name, printed_line, printed_plugin, printed}
+use Rattle.ts_config.specs.Reading.{is_text_byte, Means, MeansByWords, lines_in, AreFew, AreRead, IsConfiguration, ComeFromText}
+use Rattle.ts_config.specs.Rules.{plugin_words}
+use Rattle.ts_config.specs.Setup.{ConfigLines, untexted, untexted_lines}
+use Rattle.ts_config.specs.Table.{spelling, all_names, name_of, transform_of, plugin_of, fitting, named_entry, line_entry}
 use Rattle.ts_config.specs.Words.{is_end, IsPlain, IsWords}
 use Rattle.ts_config.proofs.Again.{byte_again, number_again}
 use Rattle.ts_config.proofs.FineWords.{IsFine}
+use Rattle.ts_config.proofs.Hooked.{IsPrintablePlugin, hooked_again, hooked_fine, no_transform}
+use Rattle.ts_config.proofs.Meanings.{lines_of_both}
 use Rattle.ts_config.proofs.Printable.{IsPrintable, come_printable}
 use Rattle.ts_config.proofs.Spelled.{line_words_again, words_text, none_ends}
 use Rattle.ts_config.proofs.TextLines.{lines_again}
@@ -108,6 +113,8 @@ name_plain n.Prepend = (refl, none_ends (spelling n.Prepend) refl)
 name_plain n.Map = (refl, none_ends (spelling n.Map) refl)
 name_plain n.Drop = (refl, none_ends (spelling n.Drop) refl)
 name_plain n.Delay = (refl, none_ends (spelling n.Delay) refl)
+name_plain n.Deny = (refl, none_ends (spelling n.Deny) refl)
+name_plain n.Header = (refl, none_ends (spelling n.Header) refl)
 
 name_text : (name : PluginName) → IsText (spelling name)
 name_text n.Null = plain_text (spelling n.Null) refl
@@ -117,8 +124,10 @@ name_text n.Prepend = plain_text (spelling n.Prepend) refl
 name_text n.Map = plain_text (spelling n.Map) refl
 name_text n.Drop = plain_text (spelling n.Drop) refl
 name_text n.Delay = plain_text (spelling n.Delay) refl
+name_text n.Deny = plain_text (spelling n.Deny) refl
+name_text n.Header = plain_text (spelling n.Header) refl
 
-name_again : (name : PluginName) → name_of (spelling name) ≡ Some name
+name_again : (name : PluginName) → name_of all_names (spelling name) ≡ Some name
 name_again n.Null = refl
 name_again n.Append = refl
 name_again n.Bnull = refl
@@ -126,6 +135,8 @@ name_again n.Prepend = refl
 name_again n.Map = refl
 name_again n.Drop = refl
 name_again n.Delay = refl
+name_again n.Deny = refl
+name_again n.Header = refl
 
 -- a line
 arguments_fine : (l : TransformLine) → IsPrintable l → AllByRecursion IsFine (line_arguments l)
@@ -159,59 +170,136 @@ transform_again (t.Map a b) is =
 transform_again (t.Drop b) is = ap (option_map (λ y. t.Drop y)) (byte_again b is)
 transform_again (t.Delay m) is = ap (option_map (λ y. t.Delay y)) (number_again 60000 m is (omega arith))
 
--- a line as it is printed, but for its line feed
-abbrev line_text : TransformLine → List ℕ
-line_text l = spelling (line_name l) ++ spelled_words (line_arguments l)
+-- a name and words as they are printed, but for the line feed
+abbrev words_line : PluginName → List (List ℕ) → List ℕ
+words_line name words = spelling name ++ spelled_words words
 
-line_is_text : (l : TransformLine) → IsPrintable l → IsText (line_text l)
-line_is_text l is = text-append (spelling (line_name l)) (spelled_words (line_arguments l))
-    (name_text (line_name l)) (words_text (line_arguments l) (arguments_fine l is))
+line_is_text : (name : PluginName) (words : List (List ℕ)) → AllByRecursion IsFine words
+    → IsText (words_line name words)
+line_is_text name words fine =
+    text-append (spelling name) (spelled_words words) (name_text name) (words_text words fine)
 
-abbrev meaning : TransformLine → LineMeaning
-meaning l = Transform (untexted l)
+-- a line means what its name and words mean
+line_means : (name : PluginName) (words : List (List ℕ)) (e : LineMeaning) → AllByRecursion IsFine words
+    → fitting (transform_of name words) (plugin_of name words) ≡ Ok e
+    → Means all_names (words_line name words) (Ok e)
+line_means name words e fine is =
+    let line : List ℕ = words_line name words in
+    let are : IsWords line (spelling name ∷ words) =
+    line_words_again (spelling name) words (name_plain name) fine in
+    let entry : line_entry all_names (spelling name ∷ words) ≡ Ok e =
+    ap (λ o. named_entry o words) (name_again name) ∙ is in
+    subst (λ b. MatchBool b (MeansByWords all_names line (Ok e)) (Ok e ≡ Err k.Text))
+    (sym (text-is line (line_is_text name words fine)))
+    (inl (spelling name ∷ words, are, sym entry))
 
-line_means : (l : TransformLine) → IsPrintable l → Means (line_text l) (Ok (meaning l))
-line_means l is =
-    let words : List (List ℕ) = spelling (line_name l) ∷ line_arguments l in
-    let are : IsWords (line_text l) words =
-    line_words_again (spelling (line_name l)) (line_arguments l) (name_plain (line_name l))
-    (arguments_fine l is) in
-    let entry : line_entry words ≡ Ok (meaning l) =
-    ap (λ o. named_entry o (line_arguments l)) (name_again (line_name l))
-    ∙ ap fitting (transform_again l is) in
-    subst (λ b. MatchBool b (MeansByWords (line_text l) (Ok (meaning l))) (Ok (meaning l) ≡ Err k.Text))
-    (sym (text-is (line_text l) (line_is_text l is)))
-    (inl (words, are, sym entry))
+-- ---- all lines
 
--- all lines
-all_text : (ls : List TransformLine) → AllByRecursion IsPrintable ls
-    → AllByRecursion (λ l. IsText (line_text l)) ls
+-- a line of either kind
+abbrev Entry : Type 0
+Entry = TransformLine ⊎ PluginLine
+
+abbrev IsPrintableEntry : Entry → Type 0
+IsPrintableEntry (inl l) = IsPrintable l
+IsPrintableEntry (inr p) = IsPrintablePlugin p
+
+abbrev entry_text : Entry → List ℕ
+entry_text (inl l) = words_line (line_name l) (line_arguments l)
+entry_text (inr p) = words_line (plugin_name p) (plugin_words p)
+
+abbrev meaning : Entry → LineMeaning
+meaning (inl l) = Transform (untexted l)
+meaning (inr p) = Plugin p
+
+abbrev hooks : List PluginLine → List Entry
+hooks ps = map (λ p. inr p) ps
+
+-- the transform lines, and then those of hook plugins
+abbrev entries : List TransformLine → List PluginLine → List Entry
+entries [] ps = hooks ps
+entries (l ∷ ls) ps = inl l ∷ entries ls ps
+
+hooks_printable : (ps : List PluginLine) → AllByRecursion IsPrintablePlugin ps
+    → AllByRecursion IsPrintableEntry (hooks ps)
+hooks_printable [] are = tt
+hooks_printable (p ∷ ps) are = (are.0, hooks_printable ps are.1)
+
+entries_printable : (ls : List TransformLine) (ps : List PluginLine) → AllByRecursion IsPrintable ls
+    → AllByRecursion IsPrintablePlugin ps → AllByRecursion IsPrintableEntry (entries ls ps)
+entries_printable [] ps are plugins = hooks_printable ps plugins
+entries_printable (l ∷ ls) ps are plugins = (are.0, entries_printable ls ps are.1 plugins)
+
+entry_is_text : (x : Entry) → IsPrintableEntry x → IsText (entry_text x)
+entry_is_text (inl l) is = line_is_text (line_name l) (line_arguments l) (arguments_fine l is)
+entry_is_text (inr p) is = line_is_text (plugin_name p) (plugin_words p) (hooked_fine p is)
+
+entry_means : (x : Entry) → IsPrintableEntry x → Means all_names (entry_text x) (Ok (meaning x))
+entry_means (inl l) is =
+    line_means (line_name l) (line_arguments l) (Transform (untexted l)) (arguments_fine l is)
+    (ap (λ o. fitting o (plugin_of (line_name l) (line_arguments l))) (transform_again l is))
+entry_means (inr p) is =
+    line_means (plugin_name p) (plugin_words p) (Plugin p) (hooked_fine p is)
+    (ap (λ o. fitting o (plugin_of (plugin_name p) (plugin_words p))) (no_transform p (plugin_words p))
+    ∙ ap (fitting None) (hooked_again p is))
+
+all_text : (xs : List Entry) → AllByRecursion IsPrintableEntry xs
+    → AllByRecursion (λ x. IsText (entry_text x)) xs
 all_text [] are = tt
-all_text (l ∷ ls) are = (line_is_text l are.0, all_text ls are.1)
+all_text (x ∷ xs) are = (entry_is_text x are.0, all_text xs are.1)
 
-all_mean : (ls : List TransformLine) → AllByRecursion IsPrintable ls
-    → AllZip (λ l m. Means l (Ok m)) (map line_text ls) (map meaning ls)
+all_mean : (xs : List Entry) → AllByRecursion IsPrintableEntry xs
+    → AllZip (λ l m. Means all_names l (Ok m)) (map entry_text xs) (map meaning xs)
 all_mean [] are = tt
-all_mean (l ∷ ls) are = (line_means l are.0, all_mean ls are.1)
+all_mean (x ∷ xs) are = (entry_means x are.0, all_mean xs are.1)
 
-transforms_meant : (ls : List TransformLine) → transforms_in (map meaning ls) ≡ map untexted ls
-transforms_meant [] = refl
-transforms_meant (l ∷ ls) = ap (λ ts. untexted l ∷ ts) (transforms_meant ls)
+-- the lines are printed one by one
+abbrev entry_line : Entry → List ℕ
+entry_line x = entry_text x ++ 10 ∷ []
 
-pub printed_again : (ls : List TransformLine) → AllByRecursion IsPrintable ls → length (map untexted ls) ≤ 16
-    → IsConfiguration (printed ls) (map untexted ls)
-printed_again ls are few = record {
-  es = map meaning ls;
-  read = subst (λ lines. AreRead lines (map meaning ls)) (sym (lines_again line_text ls (all_text ls are)))
-      (record { each = all_mean ls are; few = omega (arith, few, ap length (transforms_meant ls)) });
-  transforms_are = sym (transforms_meant ls);
-}
+hooks_printed : (ps : List PluginLine) → flat_map printed_plugin ps ≡ flat_map entry_line (hooks ps)
+hooks_printed [] = refl
+hooks_printed (p ∷ ps) = ap (λ text. printed_plugin p ++ text) (hooks_printed ps)
+
+entries_printed : (ls : List TransformLine) (ps : List PluginLine)
+    → flat_map printed_line ls ++ flat_map printed_plugin ps ≡ flat_map entry_line (entries ls ps)
+entries_printed [] ps = hooks_printed ps
+entries_printed (l ∷ ls) ps =
+    append_assoc (printed_line l) (flat_map printed_line ls) (flat_map printed_plugin ps)
+    ∙ ap (λ text. printed_line l ++ text) (entries_printed ls ps)
+
+-- and mean the lines
+hooks_meant : (ps : List PluginLine) → lines_in (map meaning (hooks ps)) ≡ lines_of_both [] ps
+hooks_meant [] = refl
+hooks_meant (p ∷ ps) =
+    ap (λ (ls : ConfigLines). lines_of_both ls.transforms (p ∷ ls.plugins)) (hooks_meant ps)
+
+entries_meant : (ls : List TransformLine) (ps : List PluginLine)
+    → lines_in (map meaning (entries ls ps)) ≡ lines_of_both (map untexted ls) ps
+entries_meant [] ps = hooks_meant ps
+entries_meant (l ∷ ls) ps =
+    ap (λ (xs : ConfigLines). lines_of_both (untexted l ∷ xs.transforms) xs.plugins) (entries_meant ls ps)
+
+printed_again : (ls : ConfigLines) → AllByRecursion IsPrintable ls.transforms
+    → AllByRecursion IsPrintablePlugin ls.plugins → AreFew (untexted_lines ls)
+    → IsConfiguration all_names (printed ls) (untexted_lines ls)
+printed_again ls are plugins few =
+    let xs : List Entry = entries ls.transforms ls.plugins in
+    let fine : AllByRecursion IsPrintableEntry xs =
+    entries_printable ls.transforms ls.plugins are plugins in
+    let meant : lines_in (map meaning xs) ≡ untexted_lines ls = entries_meant ls.transforms ls.plugins in
+    let cut : config_lines (printed ls) ≡ map entry_text xs =
+    ap config_lines (entries_printed ls.transforms ls.plugins)
+    ∙ lines_again entry_text xs (all_text xs fine) in
+    record {
+      es = map meaning xs;
+      read = subst (λ lines. AreRead all_names lines (map meaning xs)) (sym cut)
+          (record { each = all_mean xs fine; few = subst AreFew (sym meant) few });
+      lines_are = sym meant;
+    }
 
 -- lines that come from text are read back
-pub come_again : (ls : List TransformLine) → ComeFromText ls → IsConfiguration (printed ls) (map untexted ls)
+pub come_again : (ls : ConfigLines) → ComeFromText ls
+    → IsConfiguration all_names (printed ls) (untexted_lines ls)
 come_again ls from =
-    printed_again ls (come_printable ls from) (omega (
-      arith,
-      from.read.read.few,
-      ap length from.read.transforms_are,
-    ))
+    let (are, plugins) = come_printable ls from in
+    printed_again ls are plugins (subst AreFew (sym from.read.lines_are) from.read.read.few)

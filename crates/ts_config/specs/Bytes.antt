@@ -38,7 +38,15 @@ delete = 127
 abbrev pub most_transforms : ℕ
 most_transforms = 16
 
--- the most bytes of the text of a prepend line
+-- the most lines of hook plugins
+abbrev pub most_plugins : ℕ
+most_plugins = 64
+
+-- the most sites of a deny list
+abbrev pub most_sites : ℕ
+most_sites = 64
+
+-- the most bytes of the text of a prepend line, and of the value of a header rule
 abbrev pub most_text : ℕ
 most_text = 16384
 

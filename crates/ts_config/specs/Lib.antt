@@ -4,6 +4,7 @@ pub mod Lines
 pub mod Numerals
 pub mod Printing
 pub mod Reading
+pub mod Rules
 pub mod Scanning
 pub mod Setup
 pub mod Table

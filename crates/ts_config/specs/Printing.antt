@@ -2,6 +2,8 @@
 use Rattle.std.specs.Prelude.{ℕ, Bool, true, List, [], ◌∷◌, ◌++◌, flat_map, if◌then◌else◌}
 use Rattle.std.specs.Fmt.{decimal}
 use Rattle.std.specs.List.{list_any}
+use Rattle.ts_config.specs.declared.fields.PluginLine.{PluginLine}
+use Rattle.ts_config.specs.declared.fields.PluginLine.TheVariants.{Deny, Header}
 use Rattle.ts_config.specs.declared.setup.TransformLine.{TransformLine}
 use Rattle.ts_config.specs.declared.setup.TransformLine.TheVariants as t
 use Rattle.ts_config.specs.declared.table.PluginName.{PluginName}
@@ -10,6 +12,8 @@ use Rattle.ts_link.specs.Texts.{line_feed}
 use Rattle.ts_config.specs.Bytes.{quote_mark, space}
 use Rattle.ts_config.specs.Words.{is_end}
 use Rattle.ts_config.specs.Numerals.{byte_word}
+use Rattle.ts_config.specs.Rules.{plugin_words}
+use Rattle.ts_config.specs.Setup.{ConfigLines}
 use Rattle.ts_config.specs.Table.{spelling}
 
 -- a word that stands between quotes: an empty one, and one with a blank or a `#`
@@ -31,6 +35,11 @@ line_name (t.Map from to) = n.Map
 line_name (t.Drop byte) = n.Drop
 line_name (t.Delay ms) = n.Delay
 
+-- and that of a hook plugin
+abbrev pub plugin_name : PluginLine → PluginName
+plugin_name (Deny sites) = n.Deny
+plugin_name (Header side rule) = n.Header
+
 -- the words behind the name
 abbrev pub line_arguments : TransformLine → List (List ℕ)
 line_arguments t.Null = []
@@ -45,10 +54,18 @@ line_arguments (t.Delay ms) = decimal ms ∷ []
 abbrev pub spelled_words : List (List ℕ) → List ℕ
 spelled_words words = flat_map (λ w. space ∷ spelled w) words
 
--- a line with its line feed
-abbrev pub printed_line : TransformLine → List ℕ
-printed_line line = spelling (line_name line) ++ spelled_words (line_arguments line) ++ line_feed ∷ []
+-- a name and the words behind it, as a line with its line feed
+abbrev pub named_line : PluginName → List (List ℕ) → List ℕ
+named_line name words = spelling name ++ spelled_words words ++ line_feed ∷ []
 
--- the lines, one behind the other
-abbrev pub printed : List TransformLine → List ℕ
-printed lines = flat_map printed_line lines
+-- a transform line
+abbrev pub printed_line : TransformLine → List ℕ
+printed_line line = named_line (line_name line) (line_arguments line)
+
+-- and the line of a hook plugin
+abbrev pub printed_plugin : PluginLine → List ℕ
+printed_plugin line = named_line (plugin_name line) (plugin_words line)
+
+-- the transform lines, one behind the other, and then those of hook plugins
+abbrev pub printed : ConfigLines → List ℕ
+printed lines = flat_map printed_line lines.transforms ++ flat_map printed_plugin lines.plugins

@@ -1,21 +1,23 @@
 -- The grammar of a configuration: what each line means by itself, and what they mean together. (plugin.config
--- and its
--- lines are the Developer's Guide's; the names, words and limits are this project's own.)
-use Rattle.std.specs.Prelude.{◌≡◌, ℕ, ◌==◌, ◌+◌, ◌<◌, ◌≤◌, ◌⊎◌, ◌&&◌, ◌||◌, not, Bool, nat_le, List, [], ◌∷◌, ◌++◌, length, map, Result, Ok, Err, MatchBool, ⊤}
+-- and its lines are the Developer's Guide's; the names, words and limits are this project's own.) The lines
+-- are read where there are these plugins, `names`: those of transform lines alone, or all.
+use Rattle.std.specs.Prelude.{◌≡◌, ℕ, ◌==◌, ◌+◌, ◌≤◌, ◌⊎◌, ◌&&◌, ◌||◌, not, Bool, true, false, nat_le, nat_lt, List, [], ◌∷◌, ◌++◌, length, Result, Ok, Err, MatchBool, ⊤}
 use Rattle.std.specs.List.{list_all, AllZip}
 use Rattle.std.specs.Str.{is_utf8}
+use Rattle.ts_config.specs.declared.fields.PluginLine.{PluginLine}
 use Rattle.ts_config.specs.declared.setup.TransformLine.{TransformLine}
 use Rattle.ts_config.specs.declared.setup.ConfigKind.{ConfigKind}
 use Rattle.ts_config.specs.declared.setup.ConfigKind.TheVariants as k
 use Rattle.ts_config.specs.declared.setup.LineMeaning.{LineMeaning}
-use Rattle.ts_config.specs.declared.setup.LineMeaning.TheVariants.{Empty, Transform}
+use Rattle.ts_config.specs.declared.setup.LineMeaning.TheVariants.{Empty, Transform, Plugin}
 use Rattle.ts_config.specs.declared.setup.ConfigRefusal.{ConfigRefusal}
 use Rattle.ts_config.specs.declared.setup.ConfigRefusal.TheVariants as c
-use Rattle.ts_config.specs.Bytes.{delete, most_transforms, space, tab}
+use Rattle.ts_config.specs.declared.table.PluginName.{PluginName}
+use Rattle.ts_config.specs.Bytes.{delete, most_plugins, most_transforms, space, tab}
 use Rattle.ts_config.specs.Lines.{config_lines}
-use Rattle.ts_config.specs.Setup.{untexted}
+use Rattle.ts_config.specs.Setup.{ConfigLines, untexted_lines}
 use Rattle.ts_config.specs.Words.{IsWords}
-use Rattle.ts_config.specs.Table.{line_entry}
+use Rattle.ts_config.specs.Table.{all_names, line_entry}
 
 -- a tab, or neither below a space nor the byte 127
 abbrev pub is_text_byte : ℕ → Bool
@@ -26,60 +28,90 @@ abbrev pub is_text : List ℕ → Bool
 is_text line = is_utf8 line && list_all is_text_byte line
 
 -- what a line of text means by its words; where it has none because a quote does not fit, it breaks that rule
-abbrev pub MeansByWords : List ℕ → Result LineMeaning ConfigKind → Type 0
-MeansByWords line meaning =
-    ((words : List (List ℕ)) × IsWords line words × (meaning ≡ line_entry words))
+abbrev pub MeansByWords : List PluginName → List ℕ → Result LineMeaning ConfigKind → Type 0
+MeansByWords names line meaning =
+    ((words : List (List ℕ)) × IsWords line words × (meaning ≡ line_entry names words))
     ⊎ (((words : List (List ℕ)) → ¬ IsWords line words) × (meaning ≡ Err k.Quote))
 
 -- what a line means by itself, or the first rule that it breaks
-abbrev pub Means : List ℕ → Result LineMeaning ConfigKind → Type 0
-Means line meaning = MatchBool (is_text line) (MeansByWords line meaning) (meaning ≡ Err k.Text)
+abbrev pub Means : List PluginName → List ℕ → Result LineMeaning ConfigKind → Type 0
+Means names line meaning = MatchBool (is_text line) (MeansByWords names line meaning) (meaning ≡ Err k.Text)
 
 -- the transform that a line asks for, if it does
 abbrev pub transform_in : LineMeaning → List TransformLine
-transform_in Empty = []
 transform_in (Transform t) = t ∷ []
+transform_in Empty = []
+transform_in (Plugin p) = []
+
+-- the hook plugin that a line asks for, if it does
+abbrev pub plugin_in : LineMeaning → List PluginLine
+plugin_in (Plugin p) = p ∷ []
+plugin_in Empty = []
+plugin_in (Transform t) = []
 
 -- those of all lines, in their order
 abbrev pub transforms_in : List LineMeaning → List TransformLine
 transforms_in [] = []
 transforms_in (e ∷ es) = transform_in e ++ transforms_in es
 
--- each line is in the grammar, the lines mean these, and there are not too many transforms
-pub record AreRead (lines : List (List ℕ)) (es : List LineMeaning) : Type 0 where
-  pub each : AllZip (λ line e. Means line (Ok e)) lines es
-  pub few : length (transforms_in es) ≤ most_transforms
+abbrev pub plugins_in : List LineMeaning → List PluginLine
+plugins_in [] = []
+plugins_in (e ∷ es) = plugin_in e ++ plugins_in es
 
--- behind these transforms the line breaks a rule of its own, or is one too many
-abbrev pub Breaks : List TransformLine → List ℕ → ConfigKind → Type 0
-Breaks so_far line kind =
-    Means line (Err kind)
-    ⊎ ((e : LineMeaning) × Means line (Ok e) × (most_transforms < length (so_far ++ transform_in e))
-    × (kind ≡ k.TooMany))
+abbrev pub lines_in : List LineMeaning → ConfigLines
+lines_in es = record { transforms = transforms_in es; plugins = plugins_in es }
+
+-- the lines, and behind them one of this meaning
+abbrev pub with_line : ConfigLines → LineMeaning → ConfigLines
+with_line ls e =
+    record { transforms = ls.transforms ++ transform_in e; plugins = ls.plugins ++ plugin_in e }
+
+-- there are not too many of either kind
+pub record AreFew (ls : ConfigLines) : Type 0 where
+  pub transforms : length ls.transforms ≤ most_transforms
+  pub plugins : length ls.plugins ≤ most_plugins
+
+-- there may be one more line of this meaning
+abbrev pub has_room : ConfigLines → LineMeaning → Bool
+has_room ls (Transform t) = nat_lt (length ls.transforms) most_transforms
+has_room ls (Plugin p) = nat_lt (length ls.plugins) most_plugins
+has_room ls Empty = true
+
+-- each line is in the grammar, the lines mean these, and there are not too many
+pub record AreRead (names : List PluginName) (lines : List (List ℕ)) (es : List LineMeaning) : Type 0 where
+  pub each : AllZip (λ line e. Means names line (Ok e)) lines es
+  pub few : AreFew (lines_in es)
+
+-- behind these lines the line breaks a rule of its own, or is one too many
+abbrev pub Breaks : List PluginName → ConfigLines → List ℕ → ConfigKind → Type 0
+Breaks names so_far line kind =
+    Means names line (Err kind)
+    ⊎ ((e : LineMeaning) × Means names line (Ok e) × (has_room so_far e ≡ false) × (kind ≡ k.TooMany))
 
 -- the n-th line, counted from 1, is the first that is not in the grammar, and this is the rule that it breaks
-pub record IsFault (lines : List (List ℕ)) (n : ℕ) (kind : ConfigKind) : Type 0 where
+pub record IsFault (names : List PluginName) (lines : List (List ℕ)) (n : ℕ) (kind : ConfigKind)
+    : Type 0 where
   pub before : List (List ℕ)
   pub line : List ℕ
   pub after : List (List ℕ)
   pub es : List LineMeaning
   pub lines_are : lines ≡ before ++ line ∷ after
   pub number : n ≡ length before + 1
-  pub fine : AreRead before es
-  pub breaks : Breaks (transforms_in es) line kind
+  pub fine : AreRead names before es
+  pub breaks : Breaks names (lines_in es) line kind
 
 -- want of memory says nothing of the lines
-abbrev pub RefusesRightly : List (List ℕ) → ConfigRefusal → Type 0
-RefusesRightly lines c.NoMemory = ⊤
-RefusesRightly lines (c.Fault f) = IsFault lines f.line f.kind
+abbrev pub RefusesRightly : List PluginName → List (List ℕ) → ConfigRefusal → Type 0
+RefusesRightly names lines c.NoMemory = ⊤
+RefusesRightly names lines (c.Fault f) = IsFault names lines f.line f.kind
 
--- the bytes are a configuration, and these are its transform lines
-pub record IsConfiguration (bytes : List ℕ) (transforms : List TransformLine) : Type 0 where
+-- the bytes are a configuration, and these are its lines
+pub record IsConfiguration (names : List PluginName) (bytes : List ℕ) (lines : ConfigLines) : Type 0 where
   pub es : List LineMeaning
-  pub read : AreRead (config_lines bytes) es
-  pub transforms_are : transforms ≡ transforms_in es
+  pub read : AreRead names (config_lines bytes) es
+  pub lines_are : lines ≡ lines_in es
 
 -- the lines are those of some configuration, but for the texts of files
-pub record ComeFromText (transforms : List TransformLine) : Type 0 where
+pub record ComeFromText (lines : ConfigLines) : Type 0 where
   pub bytes : List ℕ
-  pub read : IsConfiguration bytes (map untexted transforms)
+  pub read : IsConfiguration all_names bytes (untexted_lines lines)

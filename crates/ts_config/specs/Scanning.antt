@@ -4,13 +4,14 @@ use Rattle.ts_config.specs.declared.setup.ConfigKind.{ConfigKind}
 use Rattle.ts_config.specs.declared.setup.ConfigRefusal.{ConfigRefusal}
 use Rattle.ts_config.specs.declared.setup.ConfigRefusal.TheVariants as c
 use Rattle.ts_config.specs.declared.setup.LineMeaning.{LineMeaning}
-use Rattle.ts_config.specs.declared.setup.TransformLine.{TransformLine}
 use Rattle.ts_config.specs.declared.read.LineRefusal.{LineRefusal}
 use Rattle.ts_config.specs.declared.read.LineRefusal.TheVariants as r
+use Rattle.ts_config.specs.declared.table.PluginName.{PluginName}
 use Rattle.ts_config.specs.declared.words.NextWord.{NextWord}
 use Rattle.ts_config.specs.declared.words.NextWord.TheVariants.{Nothing, Word, Unclosed}
 use Rattle.ts_config.specs.Bytes.{quote_mark}
-use Rattle.ts_config.specs.Reading.{Means, Breaks}
+use Rattle.ts_config.specs.Reading.{Means, Breaks, with_line}
+use Rattle.ts_config.specs.Setup.{ConfigLines}
 use Rattle.ts_config.specs.Words.{IsWords, BeginsWithWord, HasNoWord, IsQuotable, EndsWord}
 
 -- a text behind a quote is this word, the second quote and the rest, or it is no such text
@@ -42,15 +43,21 @@ AnswersAsRead (Ok x) read = read ≡ Ok x
 AnswersAsRead (Err e) read = Refuses e read
 
 -- the line means what was answered, unless memory lacked
-abbrev pub MeansUnlessMemory : List ℕ → Result LineMeaning LineRefusal → Type 0
-MeansUnlessMemory line (Ok e) = Means line (Ok e)
-MeansUnlessMemory line (Err r.NoMemory) = ⊤
-MeansUnlessMemory line (Err (r.Kind kind)) = Means line (Err kind)
+abbrev pub MeansUnlessMemory : List PluginName → List ℕ → Result LineMeaning LineRefusal → Type 0
+MeansUnlessMemory names line (Ok e) = Means names line (Ok e)
+MeansUnlessMemory names line (Err r.NoMemory) = ⊤
+MeansUnlessMemory names line (Err (r.Kind kind)) = Means names line (Err kind)
 
--- the line breaks this rule behind these transforms, unless memory lacked
-abbrev pub BreaksUnlessMemory : List TransformLine → List ℕ → LineRefusal → Type 0
-BreaksUnlessMemory so_far line r.NoMemory = ⊤
-BreaksUnlessMemory so_far line (r.Kind kind) = Breaks so_far line kind
+-- a line is added to those before it by what it means
+pub record Adds (names : List PluginName) (line : List ℕ) (old new : ConfigLines) : Type 0 where
+  pub e : LineMeaning
+  pub means : Means names line (Ok e)
+  pub new_is : new ≡ with_line old e
+
+-- the line breaks this rule behind these lines, unless memory lacked
+abbrev pub BreaksUnlessMemory : List PluginName → ConfigLines → List ℕ → LineRefusal → Type 0
+BreaksUnlessMemory names so_far line r.NoMemory = ⊤
+BreaksUnlessMemory names so_far line (r.Kind kind) = Breaks names so_far line kind
 
 -- the refusal of a line, at its number
 abbrev pub refusal_at : ℕ → LineRefusal → ConfigRefusal

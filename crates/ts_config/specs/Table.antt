@@ -2,16 +2,18 @@
 use Rattle.std.specs.Prelude.{ℕ, nat_le, List, [], ◌∷◌, length, codes, find, Option, Some, None, Result, Ok, Err, if◌then◌else◌}
 use Rattle.std.specs.Option.{option_map, option_and_then}
 use Rattle.std.specs.Str.{bytes_eq}
+use Rattle.ts_config.specs.declared.fields.PluginLine.{PluginLine}
 use Rattle.ts_config.specs.declared.setup.TransformLine.{TransformLine}
 use Rattle.ts_config.specs.declared.setup.TransformLine.TheVariants as t
 use Rattle.ts_config.specs.declared.setup.ConfigKind.{ConfigKind}
 use Rattle.ts_config.specs.declared.setup.ConfigKind.TheVariants as k
 use Rattle.ts_config.specs.declared.setup.LineMeaning.{LineMeaning}
-use Rattle.ts_config.specs.declared.setup.LineMeaning.TheVariants.{Empty, Transform}
+use Rattle.ts_config.specs.declared.setup.LineMeaning.TheVariants.{Empty, Transform, Plugin}
 use Rattle.ts_config.specs.declared.table.PluginName.{PluginName}
 use Rattle.ts_config.specs.declared.table.PluginName.TheVariants as n
 use Rattle.ts_config.specs.Bytes.{most_delay, most_text}
 use Rattle.ts_config.specs.Numerals.{byte_of, number_of}
+use Rattle.ts_config.specs.Rules.{deny_of, header_of}
 
 -- the word that a line of a plugin begins with
 abbrev pub spelling : PluginName → List ℕ
@@ -22,14 +24,21 @@ spelling n.Prepend = codes "prepend.so"
 spelling n.Map = codes "map.so"
 spelling n.Drop = codes "drop.so"
 spelling n.Delay = codes "delay.so"
+spelling n.Deny = codes "denylist.so"
+spelling n.Header = codes "header.so"
 
--- all names of plugins
+-- the plugins of transform lines
+abbrev pub transform_names : List PluginName
+transform_names = n.Null ∷ n.Append ∷ n.Bnull ∷ n.Prepend ∷ n.Map ∷ n.Drop ∷ n.Delay ∷ []
+
+-- all plugins: those of transform lines, and those that are called at hooks
 abbrev pub all_names : List PluginName
-all_names = n.Null ∷ n.Append ∷ n.Bnull ∷ n.Prepend ∷ n.Map ∷ n.Drop ∷ n.Delay ∷ []
+all_names =
+    n.Null ∷ n.Append ∷ n.Bnull ∷ n.Prepend ∷ n.Map ∷ n.Drop ∷ n.Delay ∷ n.Deny ∷ n.Header ∷ []
 
--- the plugin that a word names
-abbrev pub name_of : List ℕ → Option PluginName
-name_of word = find (λ n. bytes_eq (spelling n) word) all_names
+-- the plugin that a word names, of those that there are
+abbrev pub name_of : List PluginName → List ℕ → Option PluginName
+name_of names word = find (λ n. bytes_eq (spelling n) word) names
 
 -- the transform that a name and the words after it ask for, if they fit
 abbrev pub transform_of : PluginName → List (List ℕ) → Option TransformLine
@@ -43,17 +52,25 @@ transform_of n.Drop (byte ∷ []) = option_map (λ b. t.Drop b) (byte_of byte)
 transform_of n.Delay (ms ∷ []) = option_map (λ m. t.Delay m) (number_of most_delay ms)
 transform_of name others = None
 
+-- the hook plugin that a name and the words after it ask for, if they fit
+abbrev pub plugin_of : PluginName → List (List ℕ) → Option PluginLine
+plugin_of n.Deny words = deny_of words
+plugin_of n.Header words = header_of words
+plugin_of name words = None
+
 -- the line that a name and its words ask for, or that they do not fit
-abbrev pub fitting : Option TransformLine → Result LineMeaning ConfigKind
-fitting (Some line) = Ok (Transform line)
-fitting None = Err k.Arguments
+abbrev pub fitting : Option TransformLine → Option PluginLine → Result LineMeaning ConfigKind
+fitting (Some line) plugin = Ok (Transform line)
+fitting None (Some line) = Ok (Plugin line)
+fitting None None = Err k.Arguments
 
 -- what a line with this name and these words behind it means
 abbrev pub named_entry : Option PluginName → List (List ℕ) → Result LineMeaning ConfigKind
-named_entry (Some name) words = fitting (transform_of name words)
+named_entry (Some name) words = fitting (transform_of name words) (plugin_of name words)
 named_entry None words = Err k.Plugin
 
--- what the words of a line mean, or the first rule that they break; a line without a word means nothing
-abbrev pub line_entry : List (List ℕ) → Result LineMeaning ConfigKind
-line_entry [] = Ok Empty
-line_entry (word ∷ words) = named_entry (name_of word) words
+-- what the words of a line mean, or the first rule that they break, where there are these plugins; a line
+-- without a word means nothing
+abbrev pub line_entry : List PluginName → List (List ℕ) → Result LineMeaning ConfigKind
+line_entry names [] = Ok Empty
+line_entry names (word ∷ words) = named_entry (name_of names word) words

@@ -61,6 +61,13 @@ impl Sites {
             None => None,
         }
     }
+
+    /// All sites.
+    pub fn sites(&self) -> &[Octets]
+        ensures { result.now ≡ self.now }
+    {
+        self.listed.as_slice()
+    }
 }
 
 /// A plugin that is called at hooks of a transaction.

@@ -1,5 +1,6 @@
-//! The configuration: one line for each transform of the chain, as operators write it. Reading gives the
-//! value of the grammar or names the first faulty line, and printing gives lines that read the same.
+//! The configuration: one line for each transform of the chain and each hook plugin, as operators write it.
+//! Reading gives the value of the grammar or names the first faulty line, and printing gives lines that read
+//! the same.
 #![tactic(auto)]
 
 mod fields;
@@ -8,6 +9,7 @@ mod lines;
 mod numerals;
 mod print;
 mod read;
+mod rules;
 mod setup;
 mod table;
 mod words;
@@ -15,5 +17,5 @@ mod words;
 pub use fields::{PluginLine, Rule, Side, Sites};
 pub use laws::one_reading;
 pub use print::print_config;
-pub use read::read_config;
+pub use read::{read_config, read_setup};
 pub use setup::{ConfigFault, ConfigKind, ConfigRefusal, Setup, TransformLine};

@@ -1,12 +1,16 @@
 //! A configuration is printed, so that it reads back as the same lines.
-ghost use Rattle.std.specs.Prelude.{◌≡◌, ℕ, List, [], ◌∷◌, ◌++◌, map, OnOk, IfOk};
+ghost use Rattle.std.specs.Prelude.{◌≡◌, ◌∷◌, ◌++◌, flat_map, OnOk, IfOk};
 ghost use Rattle.ts_config.specs.Bytes.{space};
 ghost use Rattle.ts_config.specs.Numerals.{byte_word};
-ghost use Rattle.ts_config.specs.Printing.{needs_quotes, spelled, spelled_words, line_arguments, line_name, printed_line, printed};
+ghost use Rattle.ts_config.specs.Printing.{needs_quotes, spelled, spelled_words, line_arguments, line_name, plugin_name, printed_line, printed_plugin, printed};
 ghost use Rattle.ts_config.specs.Reading.{IsConfiguration, ComeFromText};
-ghost use Rattle.ts_config.specs.Setup.{untexted};
+ghost use Rattle.ts_config.specs.Rules.{plugin_words, rule_words};
+ghost use Rattle.ts_config.specs.Setup.{lines_of, untexted_lines};
+ghost use Rattle.ts_config.specs.Table.{all_names};
 
+use crate::fields::{PluginLine, Rule};
 use crate::numerals::hex_digit;
+use crate::rules::side_word;
 use crate::setup::{Setup, TransformLine};
 use crate::table::PluginName;
 use crate::words::is_end;
@@ -98,24 +102,96 @@ fn print_line(alloc: Global, out: &mut Vec<u8>, line: &TransformLine) -> Result<
     Ok(())
 }
 
-fn print_lines(alloc: Global, lines: &[TransformLine]) -> Result<Vec<u8>, NoMemory>
-    ensures { IfOk result (λ out. out.items ≡ printed lines.now) }
+fn print_lines(alloc: Global, out: &mut Vec<u8>, lines: &[TransformLine]) -> Result<(), NoMemory>
+    ensures { OnOk result (out.new.items ≡ out.old.items ++ flat_map printed_line lines.now) }
 {
-    let mut out = Vec::new(alloc);
     for line in lines {
-        print_line(alloc, &mut out, line)?;
+        print_line(alloc, out, line)?;
     }
-    Ok(out)
+    Ok(())
 }
 
-/// A configuration of these lines. The texts of files are left aside.
-pub fn print_config(alloc: Global, setup: &Setup) -> Result<Octets, NoMemory>
-    requires read { ComeFromText setup.now.transforms.items }
-    requires plugins { setup.now.plugins.items ≡ [] }
-    ensures text { IfOk result (λ o. o ≡ printed setup.now.transforms.items) }
-    // It is read back as the same lines.
-    ensures again { IfOk result (λ o. IsConfiguration o (map untexted setup.now.transforms.items)) }
+fn print_sites(out: &mut Vec<u8>, sites: &[Octets]) -> Result<(), NoMemory>
+    ensures { OnOk result (out.new.items ≡ out.old.items ++ spelled_words sites.now) }
 {
-    let out = print_lines(alloc, setup.transforms.as_slice())?;
+    for site in sites {
+        print_word(out, site.bytes())?;
+    }
+    Ok(())
+}
+
+// Prints a rule: its action, the name, and the value where it has one.
+fn print_rule(out: &mut Vec<u8>, rule: &Rule) -> Result<(), NoMemory>
+    ensures { OnOk result (out.new.items ≡ out.old.items ++ spelled_words (rule_words rule.now)) }
+{
+    match rule {
+        Rule::Set { name, value } => {
+            print_word(out, b"set")?;
+            print_word(out, name.as_bytes())?;
+            print_word(out, value.as_bytes())
+        }
+        Rule::Add { name, value } => {
+            print_word(out, b"add")?;
+            print_word(out, name.as_bytes())?;
+            print_word(out, value.as_bytes())
+        }
+        Rule::Remove { name } => {
+            print_word(out, b"remove")?;
+            print_word(out, name.as_bytes())
+        }
+    }
+}
+
+fn plugin_name(line: &PluginLine) -> PluginName
+    ensures { result ≡ plugin_name line.now }
+{
+    match line {
+        PluginLine::Deny { .. } => PluginName::Deny,
+        PluginLine::Header { .. } => PluginName::Header,
+    }
+}
+
+// Prints the words behind the name of a hook plugin's line.
+fn print_plugin_words(out: &mut Vec<u8>, line: &PluginLine) -> Result<(), NoMemory>
+    ensures { OnOk result (out.new.items ≡ out.old.items ++ spelled_words (plugin_words line.now)) }
+{
+    match line {
+        PluginLine::Deny { sites } => print_sites(out, sites.sites()),
+        PluginLine::Header { side, rule } => {
+            print_word(out, side_word(*side))?;
+            print_rule(out, rule)
+        }
+    }
+}
+
+fn print_plugin(out: &mut Vec<u8>, line: &PluginLine) -> Result<(), NoMemory>
+    ensures { OnOk result (out.new.items ≡ out.old.items ++ printed_plugin line.now) }
+{
+    out.extend_from_slice(plugin_name(line).spelling())?;
+    print_plugin_words(out, line)?;
+    out.push(b'\n')?;
+    Ok(())
+}
+
+fn print_plugins(out: &mut Vec<u8>, lines: &[PluginLine]) -> Result<(), NoMemory>
+    ensures { OnOk result (out.new.items ≡ out.old.items ++ flat_map printed_plugin lines.now) }
+{
+    for line in lines {
+        print_plugin(out, line)?;
+    }
+    Ok(())
+}
+
+/// A configuration of these lines: the transform lines, and then those of hook plugins. The texts of files
+/// are left aside.
+pub fn print_config(alloc: Global, setup: &Setup) -> Result<Octets, NoMemory>
+    requires { ComeFromText (lines_of setup.now) }
+    ensures text { IfOk result (λ o. o ≡ printed (lines_of setup.now)) }
+    // It is read back as the same lines.
+    ensures again { IfOk result (λ o. IsConfiguration all_names o (untexted_lines (lines_of setup.now))) }
+{
+    let mut out = Vec::new(alloc);
+    print_lines(alloc, &mut out, setup.transforms.as_slice())?;
+    print_plugins(&mut out, setup.plugins.as_slice())?;
     Ok(Octets::of_vec(out))
 }

@@ -1,25 +1,28 @@
 //! A configuration is read line by line, up to the first line that is not in the grammar.
-ghost use Rattle.std.specs.Prelude.{◌≡◌, ℕ, ◌≤◌, ◌++◌, ◌<◌, List, [], length, map, Result, Ok, OnOk, IfOk, IfErr, All};
+ghost use Rattle.std.specs.Prelude.{◌≡◌, [], OnOk, IfOk, IfErr, All};
 ghost use Rattle.std.specs.List.{list_all};
 ghost use Rattle.std.specs.Str.{is_utf8};
-ghost use Rattle.ts_config.specs.declared.setup.LineMeaning.{LineMeaning};
-ghost use Rattle.ts_config.specs.Bytes.{most_transforms};
 ghost use Rattle.ts_config.specs.Lines.{config_lines};
-ghost use Rattle.ts_config.specs.Reading.{is_text_byte, is_text, Means, transform_in, Breaks, RefusesRightly, IsConfiguration, ComeFromText};
-ghost use Rattle.ts_config.specs.Setup.{HasFileName};
-ghost use Rattle.ts_config.specs.Value.{Good, IsConfigRefusal, config_of};
-ghost use Rattle.ts_config.specs.Scanning.{MeansUnlessMemory, BreaksUnlessMemory, refusal_at};
+ghost use Rattle.ts_config.specs.Reading.{is_text_byte, is_text, with_line, has_room, AreFew, RefusesRightly, IsConfiguration, ComeFromText};
+ghost use Rattle.ts_config.specs.Rules.{HasPlainRule};
+ghost use Rattle.ts_config.specs.Setup.{HasFileName, lines_of, transforms_alone};
+ghost use Rattle.ts_config.specs.Table.{all_names, transform_names};
+ghost use Rattle.ts_config.specs.Value.{Good, IsConfigRefusal, config_of, setup_of};
+ghost use Rattle.ts_config.specs.Scanning.{Adds, MeansUnlessMemory, BreaksUnlessMemory, refusal_at};
 ghost use Rattle.ts_config.specs.declared.read.LineRefusal.TheVariants as r;
 
 use crate::lines::cut_line;
-use crate::setup::{ConfigFault, ConfigKind, ConfigRefusal, LineMeaning, Setup, TransformLine};
-use crate::table::entry_of;
+use crate::setup::{ConfigFault, ConfigKind, ConfigRefusal, LineMeaning, Setup};
+use crate::table::{PluginName, all_names, entry_of, transform_names};
 use crate::words::words_of;
 use std::alloc::{AllocFailed, Global};
 use ts_link::NoMemory;
 
 // The most transform lines of a configuration.
 const MOST_TRANSFORMS: usize = 16;
+
+// The most lines of hook plugins.
+const MOST_PLUGINS: usize = 64;
 
 /// Why a line was not read.
 #[derive(Clone, Copy)]
@@ -75,40 +78,69 @@ fn is_text(line: &[u8]) -> bool
 }
 
 // What a line means by itself, or the first rule that it breaks.
-fn line_meaning(alloc: Global, line: &[u8]) -> Result<LineMeaning, LineRefusal>
-    ensures { MeansUnlessMemory line.now result }
+fn line_meaning(
+    alloc: Global,
+    names: &[PluginName],
+    line: &[u8],
+) -> Result<LineMeaning, LineRefusal>
+    ensures { MeansUnlessMemory names.now line.now result }
 {
     if !is_text(line) {
         return Err(LineRefusal::Kind(ConfigKind::Text));
     }
     match words_of(alloc, line)? {
-        Some(words) => entry_of(alloc, &words),
+        Some(words) => entry_of(alloc, names, &words),
         None => Err(LineRefusal::Kind(ConfigKind::Quote)),
+    }
+}
+
+// Whether there may be one more line of this meaning.
+fn has_room(setup: &Setup, meaning: &LineMeaning) -> bool
+    ensures { result ≡ has_room (lines_of setup.now) meaning.now }
+{
+    match meaning {
+        LineMeaning::Empty => true,
+        LineMeaning::Transform(_) => setup.transforms.len() < MOST_TRANSFORMS,
+        LineMeaning::Plugin(_) => setup.plugins.len() < MOST_PLUGINS,
+    }
+}
+
+// Puts a line of this meaning behind those of its kind.
+fn put_line(setup: &mut Setup, meaning: LineMeaning) -> Result<(), LineRefusal>
+    ensures ok { OnOk result (lines_of setup.new ≡ with_line (lines_of setup.old) meaning) }
+    ensures refusal { IfErr result (λ e. e ≡ r.NoMemory) }
+{
+    match meaning {
+        LineMeaning::Empty => Ok(()),
+        LineMeaning::Transform(line) => {
+            setup.transforms.push(line)?;
+            Ok(())
+        }
+        LineMeaning::Plugin(line) => {
+            setup.plugins.push(line)?;
+            Ok(())
+        }
     }
 }
 
 // Adds what a line means to what the lines before it mean.
 fn add_line(
     alloc: Global,
-    transforms: &mut Vec<TransformLine>,
+    names: &[PluginName],
+    setup: &mut Setup,
     line: &[u8],
 ) -> Result<(), LineRefusal>
-    requires { length transforms.old.items ≤ most_transforms }
-    ensures ok { OnOk result ((e : LineMeaning) × Means line.now (Ok e)
-        × (transforms.new.items ≡ transforms.old.items ++ transform_in e)) }
-    ensures few { OnOk result (length transforms.new.items ≤ most_transforms) }
-    ensures fault { IfErr result (BreaksUnlessMemory transforms.old.items line.now) }
+    requires { AreFew (lines_of setup.old) }
+    ensures ok { OnOk result (Adds names.now line.now (lines_of setup.old) (lines_of setup.new)) }
+    ensures few { OnOk result (AreFew (lines_of setup.new)) }
+    ensures fault { IfErr result (BreaksUnlessMemory names.now (lines_of setup.old) line.now) }
 {
-    match line_meaning(alloc, line)? {
-        LineMeaning::Empty => Ok(()),
-        LineMeaning::Transform(transform) => {
-            if transforms.len() >= MOST_TRANSFORMS {
-                return Err(LineRefusal::Kind(ConfigKind::TooMany));
-            }
-            transforms.push(transform)?;
-            Ok(())
-        }
+    let meaning = line_meaning(alloc, names, line)?;
+    if !has_room(setup, &meaning) {
+        return Err(LineRefusal::Kind(ConfigKind::TooMany));
     }
+    put_line(setup, meaning)?;
+    Ok(())
 }
 
 fn refusal_at(line: u64, refusal: LineRefusal) -> ConfigRefusal
@@ -120,31 +152,59 @@ fn refusal_at(line: u64, refusal: LineRefusal) -> ConfigRefusal
     }
 }
 
-/// What the configuration means, with the texts of its files empty. A fault names the first line that is not
-/// in the grammar, counted from 1, and the first rule that it breaks, in the order of `ConfigKind`.
-pub fn read_config(alloc: Global, bytes: &[u8]) -> Result<Setup, ConfigRefusal>
-    ensures read { IfOk result (λ s. IsConfiguration bytes.now s.transforms.items) }
-    ensures plugins { IfOk result (λ s. s.plugins.items ≡ []) }
-    ensures value { IfOk result (λ s. config_of bytes.now ≡ Good s.transforms.items) }
-    ensures names { IfOk result (λ s. All HasFileName s.transforms.items) }
-    // So it can be printed.
-    ensures printable { IfOk result (λ s. ComeFromText s.transforms.items) }
-    ensures fault { IfErr result (RefusesRightly (config_lines bytes.now)) }
-    ensures refusal { IfErr result (IsConfigRefusal (config_of bytes.now)) }
+// What the configuration means where there are these plugins.
+fn read_lines(alloc: Global, names: &[PluginName], bytes: &[u8]) -> Result<Setup, ConfigRefusal>
+    ensures read { IfOk result (λ s. IsConfiguration names.now bytes.now (lines_of s)) }
+    ensures fault { IfErr result (RefusesRightly names.now (config_lines bytes.now)) }
 {
-    let mut transforms = Vec::new(alloc);
+    let transforms = Vec::new(alloc);
+    let plugins = Vec::new(alloc);
+    let mut setup = Setup {
+        transforms,
+        plugins,
+    };
     let mut rest = bytes;
     let mut line_number = 0;
     while !rest.is_empty() {
         let (line, behind) = cut_line(rest);
         line_number += 1;
-        match add_line(alloc, &mut transforms, line) {
+        match add_line(alloc, names, &mut setup, line) {
             Ok(()) => rest = behind,
             Err(refusal) => return Err(refusal_at(line_number, refusal)),
         }
     }
-    Ok(Setup {
-        transforms,
-        plugins: Vec::new(alloc),
-    })
+    Ok(setup)
+}
+
+/// What a configuration of transform lines means, with the texts of its files empty. A fault names the first
+/// line that is not in the grammar, counted from 1, and the first rule that it breaks, in the order of
+/// `ConfigKind`; the line of a hook plugin breaks `Plugin`.
+pub fn read_config(alloc: Global, bytes: &[u8]) -> Result<Setup, ConfigRefusal>
+    ensures read { IfOk result (λ s. IsConfiguration transform_names bytes.now (lines_of s)) }
+    ensures plugins { IfOk result (λ s. s.plugins.items ≡ []) }
+    ensures value { IfOk result (λ s. config_of bytes.now ≡ Good (transforms_alone s.transforms.items)) }
+    ensures names { IfOk result (λ s. All HasFileName s.transforms.items) }
+    // So it can be printed.
+    ensures printable { IfOk result (λ s. ComeFromText (lines_of s)) }
+    ensures fault { IfErr result (RefusesRightly transform_names (config_lines bytes.now)) }
+    ensures refusal { IfErr result (IsConfigRefusal (config_of bytes.now)) }
+{
+    read_lines(alloc, transform_names(), bytes)
+}
+
+/// What a configuration means, the lines of hook plugins included, with the texts of its files empty. A fault
+/// names the first line that is not in the grammar, counted from 1, and the first rule that it breaks, in the
+/// order of `ConfigKind`.
+pub fn read_setup(alloc: Global, bytes: &[u8]) -> Result<Setup, ConfigRefusal>
+    ensures read { IfOk result (λ s. IsConfiguration all_names bytes.now (lines_of s)) }
+    ensures value { IfOk result (λ s. setup_of bytes.now ≡ Good (lines_of s)) }
+    ensures names { IfOk result (λ s. All HasFileName s.transforms.items) }
+    // No rule changes how long a message is, which host it is for, or whether the connection is kept.
+    ensures rules { IfOk result (λ s. All HasPlainRule s.plugins.items) }
+    // So it can be printed.
+    ensures printable { IfOk result (λ s. ComeFromText (lines_of s)) }
+    ensures fault { IfErr result (RefusesRightly all_names (config_lines bytes.now)) }
+    ensures refusal { IfErr result (IsConfigRefusal (setup_of bytes.now)) }
+{
+    read_lines(alloc, all_names(), bytes)
 }

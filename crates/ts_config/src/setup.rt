@@ -1,7 +1,7 @@
 //! What a configuration means as values: its lines, and the fault of one that is not in the grammar.
 ghost use Rattle.std.specs.Prelude.{◌≡◌, map, slice_get, slice_set, IfSome, IsSomeAnd, All};
 ghost use Rattle.ts_config.specs.Reading.{ComeFromText};
-ghost use Rattle.ts_config.specs.Setup.{HasFileName, IsAppend, untexted, with_text};
+ghost use Rattle.ts_config.specs.Setup.{HasFileName, IsAppend, lines_of, untexted, with_text};
 
 use crate::fields::PluginLine;
 use thiserror::Error;
@@ -32,6 +32,7 @@ pub enum LineMeaning {
     /// A line without a word.
     Empty,
     Transform(TransformLine),
+    Plugin(PluginLine),
 }
 
 /// The rules of a line, in the order in which they are tried.
@@ -45,7 +46,7 @@ pub enum ConfigKind {
     Plugin,
     /// The other words fit the plugin.
     Arguments,
-    /// It is at most the 16th transform line.
+    /// It is at most the 16th transform line, or at most the 64th line of a hook plugin.
     TooMany,
 }
 
@@ -80,7 +81,7 @@ impl Setup {
             (λ l. self.new.transforms.items ≡ slice_set self.old.transforms.items line (with_text text l)) }
         // But for the texts of the files the lines are the same.
         ensures lines { map untexted self.new.transforms.items ≡ map untexted self.old.transforms.items }
-        ensures printable { ComeFromText self.old.transforms.items → ComeFromText self.new.transforms.items }
+        ensures printable { ComeFromText (lines_of self.old) → ComeFromText (lines_of self.new) }
         ensures names { All HasFileName self.old.transforms.items
             → All HasFileName self.new.transforms.items }
         ensures plugins { self.new.plugins ≡ self.old.plugins }

@@ -1,12 +1,13 @@
 //! The table of plugins: the first word of a line, and what the words behind it mean.
-ghost use Rattle.std.specs.Prelude.{◌≡◌, ◌==◌, ℕ, List, length, map, find, Option, IfOk, if◌then◌else◌};
-ghost use Rattle.std.specs.Str.{bytes_eq};
+ghost use Rattle.std.specs.Prelude.{◌≡◌, ◌==◌, ℕ, List, length, map, Option, IfOk, if◌then◌else◌};
 ghost use Rattle.ts_config.specs.Scanning.{AnswersAsRead};
-ghost use Rattle.ts_config.specs.Table.{spelling, name_of, transform_of, line_entry};
+ghost use Rattle.ts_config.specs.Table.{spelling, all_names, transform_names, name_of, transform_of, plugin_of, line_entry};
 ghost use Rattle.ts_config.specs.declared.table.PluginName.TheVariants as n;
 
+use crate::fields::PluginLine;
 use crate::numerals::{byte_of, number_of};
 use crate::read::LineRefusal;
+use crate::rules::{deny_of, header_of};
 use crate::setup::{ConfigKind, LineMeaning, TransformLine};
 use std::alloc::Global;
 use ts_link::{NoMemory, Octets};
@@ -21,9 +22,11 @@ pub enum PluginName {
     Map,
     Drop,
     Delay,
+    Deny,
+    Header,
 }
 
-const NAMES: [PluginName; 7] = [
+const TRANSFORM_NAMES: [PluginName; 7] = [
     PluginName::Null,
     PluginName::Append,
     PluginName::Bnull,
@@ -32,6 +35,32 @@ const NAMES: [PluginName; 7] = [
     PluginName::Drop,
     PluginName::Delay,
 ];
+
+const ALL_NAMES: [PluginName; 9] = [
+    PluginName::Null,
+    PluginName::Append,
+    PluginName::Bnull,
+    PluginName::Prepend,
+    PluginName::Map,
+    PluginName::Drop,
+    PluginName::Delay,
+    PluginName::Deny,
+    PluginName::Header,
+];
+
+/// The plugins of transform lines.
+pub fn transform_names() -> &'static [PluginName]
+    ensures { result.now ≡ transform_names }
+{
+    &TRANSFORM_NAMES
+}
+
+/// All plugins: those of transform lines, and those that are called at hooks.
+pub fn all_names() -> &'static [PluginName]
+    ensures { result.now ≡ all_names }
+{
+    &ALL_NAMES
+}
 
 // The most bytes of the text of a prepend line.
 const MOST_TEXT: usize = 16_384;
@@ -52,13 +81,15 @@ impl PluginName {
             PluginName::Map => b"map.so",
             PluginName::Drop => b"drop.so",
             PluginName::Delay => b"delay.so",
+            PluginName::Deny => b"denylist.so",
+            PluginName::Header => b"header.so",
         }
     }
 }
 
-// The first of these names that the word spells.
-fn name_among(names: &[PluginName], word: &[u8]) -> Option<PluginName>
-    ensures { result ≡ find (λ n. bytes_eq (spelling n) word.now) names.now }
+// The plugin of these that the word names.
+fn name_of(names: &[PluginName], word: &[u8]) -> Option<PluginName>
+    ensures { result ≡ name_of names.now word.now }
 {
     for name in names {
         if name.spelling() == word {
@@ -66,12 +97,6 @@ fn name_among(names: &[PluginName], word: &[u8]) -> Option<PluginName>
         }
     }
     None
-}
-
-fn name_of(word: &[u8]) -> Option<PluginName>
-    ensures { result ≡ name_of word.now }
-{
-    name_among(&NAMES, word)
 }
 
 // A line that takes no words.
@@ -165,21 +190,50 @@ fn transform_of(
         PluginName::Map => Ok(map_of(words)),
         PluginName::Drop => Ok(drop_of(words)),
         PluginName::Delay => Ok(delay_of(words)),
+        PluginName::Deny | PluginName::Header => Ok(None),
     }
 }
 
-/// What the words of a line mean, or the first rule that they break.
-pub fn entry_of(alloc: Global, words: &[&[u8]]) -> Result<LineMeaning, LineRefusal>
-    ensures { AnswersAsRead result (line_entry (map (λ w. w.now) words.now)) }
+// The hook plugin that a name and the words behind it ask for, or nothing where they do not fit.
+fn plugin_of(
+    alloc: Global,
+    name: PluginName,
+    words: &[&[u8]],
+) -> Result<Option<PluginLine>, NoMemory>
+    ensures { IfOk result (λ o. o ≡ plugin_of name (map (λ w. w.now) words.now)) }
+{
+    match name {
+        PluginName::Deny => deny_of(alloc, words),
+        PluginName::Header => header_of(alloc, words),
+        PluginName::Null
+        | PluginName::Append
+        | PluginName::Bnull
+        | PluginName::Prepend
+        | PluginName::Map
+        | PluginName::Drop
+        | PluginName::Delay => Ok(None),
+    }
+}
+
+/// What the words of a line mean where there are these plugins, or the first rule that they break.
+pub fn entry_of(
+    alloc: Global,
+    names: &[PluginName],
+    words: &[&[u8]],
+) -> Result<LineMeaning, LineRefusal>
+    ensures { AnswersAsRead result (line_entry names.now (map (λ w. w.now) words.now)) }
 {
     let [first, others @ ..] = words else {
         return Ok(LineMeaning::Empty);
     };
-    let Some(name) = name_of(first) else {
+    let Some(name) = name_of(names, first) else {
         return Err(LineRefusal::Kind(ConfigKind::Plugin));
     };
-    match transform_of(alloc, name, others)? {
-        Some(line) => Ok(LineMeaning::Transform(line)),
+    if let Some(line) = transform_of(alloc, name, others)? {
+        return Ok(LineMeaning::Transform(line));
+    }
+    match plugin_of(alloc, name, others)? {
+        Some(line) => Ok(LineMeaning::Plugin(line)),
         None => Err(LineRefusal::Kind(ConfigKind::Arguments)),
     }
 }

@@ -2,8 +2,10 @@
 use Rattle.std.proofs.Common.{ap, sym, ◌∙◌, subst}
 use Rattle.ts_config.specs.Reading.{IsConfiguration}
 use Rattle.ts_config.specs.Setup.{untexted}
+use Rattle.ts_config.specs.Table.{all_names}
 use Rattle.ts_config.specs.declared.setup.TransformLine.TheVariants.{Append}
 use Rattle.ts_config.proofs.Filled.{untexted-set, same_names}
+use Rattle.ts_config.proofs.Meanings.{lines_of_both}
 use Rattle.ts_config.proofs.setup.Setup.fill.Goals as goal
 
 pub returns-clause-lines : goal.returns-clause-lines
@@ -15,7 +17,8 @@ returns-clause-lines c =
 pub returns-clause-printable : goal.returns-clause-printable
 returns-clause-printable c = λ from. record {
   bytes = from.bytes;
-  read = subst (IsConfiguration from.bytes) (sym (returns-clause-lines c)) from.read;
+  read = subst (λ ts. IsConfiguration all_names from.bytes (lines_of_both ts c.args.self.now.plugins.items))
+      (sym (returns-clause-lines c)) from.read;
 }
 
 pub returns-clause-names : goal.returns-clause-names
