@@ -1,6 +1,6 @@
 //! Rows of configurations: what is printed of their reading, or the first faulty line and its kind.
-ghost use Rattle.std.specs.Prelude.{◌≡◌, []};
 ghost use Rattle.ts_config.specs.Reading.{ComeFromText};
+ghost use Rattle.ts_config.specs.Setup.{lines_of};
 
 use std::alloc::Global;
 use std::process::Abort;
@@ -74,9 +74,9 @@ fn check_printed(rt: &impl Abort, alloc: Global, text: &[u8], want: &[u8]) -> Re
     prints(rt, alloc, &setup, want)
 }
 
-fn prints(rt: &impl Abort, alloc: Global, setup: &Setup, want: &[u8]) -> Result<(), Fail>
-    requires read { ComeFromText setup.now.transforms.items }
-    requires plugins { setup.now.plugins.items ≡ [] }
+/// Holds what is printed of the lines against the text.
+pub fn prints(rt: &impl Abort, alloc: Global, setup: &Setup, want: &[u8]) -> Result<(), Fail>
+    requires { ComeFromText (lines_of setup.now) }
 {
     let printed = print_config(alloc, setup)?;
     assert_eq!(rt; printed.bytes(), want);
@@ -84,7 +84,7 @@ fn prints(rt: &impl Abort, alloc: Global, setup: &Setup, want: &[u8]) -> Result<
 }
 
 /// The name of the rule that a faulty line breaks.
-fn rule_of(kind: ConfigKind) -> &'static str {
+pub fn rule_of(kind: ConfigKind) -> &'static str {
     match kind {
         ConfigKind::Text => "text",
         ConfigKind::Quote => "quote",
@@ -115,7 +115,7 @@ fn check_fault(
 }
 
 /// The same bytes so many times, and an end.
-fn repeated(alloc: Global, part: &[u8], times: usize, end: &[u8]) -> Result<Vec<u8>, NoMemory> {
+pub fn repeated(alloc: Global, part: &[u8], times: usize, end: &[u8]) -> Result<Vec<u8>, NoMemory> {
     let mut text = Vec::new(alloc);
     for _ in 0..times {
         text.extend_from_slice(part)?;
@@ -147,13 +147,23 @@ fn keeps_limits(rt: HostRuntime) -> Result<(), Fail> {
     check_fault(&rt, alloc, more.as_slice(), 17, "too many")
 }
 
-#[test]
-fn fills_lines(rt: HostRuntime) -> Result<(), Fail> {
-    let mut setup = read_config(rt.alloc(), b"null_transform.so\nappend_transform.so f")?;
-    let text = Octets::copy_of(rt.alloc(), b"XY")?;
+/// The lines, and where the second one is an append, with this text of its file.
+fn filled(mut setup: Setup, text: Octets) -> Setup
+    requires { ComeFromText (lines_of setup) }
+    ensures { ComeFromText (lines_of result) }
+{
     if let Some(TransformLine::Append { .. }) = setup.transforms.get(1) {
         setup.fill(1, text);
+        return setup;
     }
+    setup
+}
+
+#[test]
+fn fills_lines(rt: HostRuntime) -> Result<(), Fail> {
+    let read = read_config(rt.alloc(), b"null_transform.so\nappend_transform.so f")?;
+    let text = Octets::copy_of(rt.alloc(), b"XY")?;
+    let setup = filled(read, text);
     match setup.transforms.get(1) {
         Some(TransformLine::Append { file, text }) => {
             assert_eq!(rt; file.bytes(), b"f".as_slice());
@@ -176,5 +186,6 @@ fn lists_sites(rt: HostRuntime) -> Result<(), Fail> {
     let sites = Sites::of_vec(listed);
     assert_eq!(rt; sites.site(0), Some(b"a.example".as_slice()));
     assert_eq!(rt; sites.site(1), None);
+    assert_eq!(rt; sites.sites().len(), 1);
     Ok(())
 }

@@ -7,6 +7,8 @@ mod configurations;
 #[cfg(test)]
 mod generated;
 #[cfg(test)]
+mod plugin_lines;
+#[cfg(test)]
 mod recordings;
 #[cfg(test)]
 mod reports;
