@@ -57,7 +57,7 @@ filled-of files (l ∷ ls) next h =
 
 understood-of : (files : List ℕ → Option (List ℕ)) (r : Reading) (next : List TransformLine → Outcome)
     → ((xs : List TransformLine) → IsOfFiles (next xs)) → IsOfFiles (understood r (λ ls. filled files ls next))
-understood-of files (Good ls) next h = filled-of files ls next h
+understood-of files (Good lines) next h = filled-of files lines.transforms next h
 understood-of files (Bad n k) next h = tt
 
 worked-of : (command : Command) (lines : List TransformLine) (bytes : List ℕ)

@@ -9,6 +9,8 @@ use Rattle.std.proofs.lemmas.Str.{IsUtf8-nil, is_utf8-from_IsUtf8}
 use Rattle.ts_config.proofs.TextParts.{both, utf8-cons}
 use Rattle.ts_config.specs.Bytes.{letter_a}
 use Rattle.ts_config.specs.Reading.{is_text_byte}
+use Rattle.ts_config.specs.Setup.{ConfigLines, transforms_alone}
+use Rattle.ts_config.specs.Table.{transform_names}
 use Rattle.ts_config.specs.Value.{Good, config_of, meaning_of, meaning_of_words, next_lines, read_lines, words_in}
 use Rattle.ts_config.specs.declared.setup.ConfigKind.{ConfigKind}
 use Rattle.ts_config.specs.declared.setup.ConfigKind.TheVariants as k
@@ -30,44 +32,46 @@ ascii-utf8 (b ∷ bs) is =
 
 -- a line of ASCII without control characters means what its words mean
 means : (line : List ℕ) → list_all (λ b. nat_lt b 128) line ≡ true → list_all is_text_byte line ≡ true
-    → meaning_of line ≡ meaning_of_words (words_in line)
+    → meaning_of transform_names line ≡ meaning_of_words transform_names (words_in line)
 means line ascii bytes =
-    ap (λ u. if u && list_all is_text_byte line then meaning_of_words (words_in line) else Err k.Text)
+    ap (λ u. if u && list_all is_text_byte line then meaning_of_words transform_names (words_in line) else Err k.Text)
     (is_utf8-from_IsUtf8 line (ascii-utf8 line ascii))
-    ∙ ap (λ b. if b then meaning_of_words (words_in line) else Err k.Text) bytes
+    ∙ ap (λ b. if b then meaning_of_words transform_names (words_in line) else Err k.Text) bytes
 
 -- a line that means this one, and the lines behind it
-line_then : (line : List ℕ) (lines : List (List ℕ)) (n : ℕ) (so_far : List TransformLine)
-    (m : Result LineMeaning ConfigKind) → meaning_of line ≡ m
-    → read_lines (line ∷ lines) n so_far ≡ next_lines m (n + 1) so_far (read_lines lines (n + 1))
-line_then line lines n so_far m is = ap (λ x. next_lines x (n + 1) so_far (read_lines lines (n + 1))) is
+line_then : (line : List ℕ) (lines : List (List ℕ)) (n : ℕ) (so_far : ConfigLines)
+    (m : Result LineMeaning ConfigKind) → meaning_of transform_names line ≡ m
+    → read_lines transform_names (line ∷ lines) n so_far
+    ≡ next_lines m (n + 1) so_far (read_lines transform_names lines (n + 1))
+line_then line lines n so_far m is =
+    ap (λ x. next_lines x (n + 1) so_far (read_lines transform_names lines (n + 1))) is
 
 -- ---- the lines
 
-null_line : meaning_of (codes "null_transform.so") ≡ Ok (Transform t.Null)
+null_line : meaning_of transform_names (codes "null_transform.so") ≡ Ok (Transform t.Null)
 null_line = means (codes "null_transform.so") refl refl
 
-map_line : meaning_of (codes "map.so a A") ≡ Ok (Transform (t.Map letter_a capital_a))
+map_line : meaning_of transform_names (codes "map.so a A") ≡ Ok (Transform (t.Map letter_a capital_a))
 map_line = means (codes "map.so a A") refl refl
 
-drop_line : meaning_of (codes "drop.so q") ≡ Ok (Transform (t.Drop letter_q))
+drop_line : meaning_of transform_names (codes "drop.so q") ≡ Ok (Transform (t.Drop letter_q))
 drop_line = means (codes "drop.so q") refl refl
 
-bnull_line : meaning_of (codes "bnull_transform.so") ≡ Ok (Transform t.Bnull)
+bnull_line : meaning_of transform_names (codes "bnull_transform.so") ≡ Ok (Transform t.Bnull)
 bnull_line = means (codes "bnull_transform.so") refl refl
 
-prepend_line : meaning_of (codes "prepend.so <") ≡ Ok (Transform (t.Prepend (codes "<")))
+prepend_line : meaning_of transform_names (codes "prepend.so <") ≡ Ok (Transform (t.Prepend (codes "<")))
 prepend_line = means (codes "prepend.so <") refl refl
 
-pub fixed_reading : config_of fixed_config ≡ Good fixed_lines
+pub fixed_reading : config_of fixed_config ≡ Good (transforms_alone fixed_lines)
 fixed_reading =
-    line_then (codes "null_transform.so") (codes "map.so a A" ∷ codes "drop.so q" ∷ codes "bnull_transform.so" ∷ codes "prepend.so <" ∷ []) 0 []
+    line_then (codes "null_transform.so") (codes "map.so a A" ∷ codes "drop.so q" ∷ codes "bnull_transform.so" ∷ codes "prepend.so <" ∷ []) 0 (transforms_alone [])
     (Ok (Transform t.Null)) null_line
-    ∙ line_then (codes "map.so a A") (codes "drop.so q" ∷ codes "bnull_transform.so" ∷ codes "prepend.so <" ∷ []) 1 (t.Null ∷ [])
+    ∙ line_then (codes "map.so a A") (codes "drop.so q" ∷ codes "bnull_transform.so" ∷ codes "prepend.so <" ∷ []) 1 (transforms_alone (t.Null ∷ []))
     (Ok (Transform (t.Map letter_a capital_a))) map_line
-    ∙ line_then (codes "drop.so q") (codes "bnull_transform.so" ∷ codes "prepend.so <" ∷ []) 2 (t.Null ∷ t.Map letter_a capital_a ∷ [])
+    ∙ line_then (codes "drop.so q") (codes "bnull_transform.so" ∷ codes "prepend.so <" ∷ []) 2 (transforms_alone (t.Null ∷ t.Map letter_a capital_a ∷ []))
     (Ok (Transform (t.Drop letter_q))) drop_line
-    ∙ line_then (codes "bnull_transform.so") (codes "prepend.so <" ∷ []) 3 (t.Null ∷ t.Map letter_a capital_a ∷ t.Drop letter_q ∷ [])
+    ∙ line_then (codes "bnull_transform.so") (codes "prepend.so <" ∷ []) 3 (transforms_alone (t.Null ∷ t.Map letter_a capital_a ∷ t.Drop letter_q ∷ []))
     (Ok (Transform t.Bnull)) bnull_line
-    ∙ line_then (codes "prepend.so <") [] 4 (t.Null ∷ t.Map letter_a capital_a ∷ t.Drop letter_q ∷ t.Bnull ∷ [])
+    ∙ line_then (codes "prepend.so <") [] 4 (transforms_alone (t.Null ∷ t.Map letter_a capital_a ∷ t.Drop letter_q ∷ t.Bnull ∷ []))
     (Ok (Transform (t.Prepend (codes "<")))) prepend_line

@@ -39,9 +39,9 @@ abbrev pub opened : Option (List ℕ) → ℕ → List ℕ → (List ℕ → Out
 opened None most name next = Missing name
 opened (Some bytes) most name next = if nat_le (length bytes) most then next bytes else Long name
 
--- goes on with the lines of a configuration, if all are in the grammar
+-- goes on with the transform lines of a configuration, if all lines are in the grammar
 abbrev pub understood : Reading → (List TransformLine → Outcome) → Outcome
-understood (Good ls) next = next ls
+understood (Good lines) next = next lines.transforms
 understood (Bad n k) next = BadLine n k
 
 -- goes on with a line, which if it is an append has the text of its file
