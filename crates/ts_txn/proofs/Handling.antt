@@ -5,6 +5,7 @@ use Rattle.ts_hooks.specs.declared.txn_end.TxnEnd.{TxnEnd}
 use Rattle.ts_transform.specs.Flow.{ChainState}
 use Rattle.ts_transform.specs.Stage.{MOST_WAITING}
 use Rattle.ts_vconn.specs.declared.moves.TheConstants.{MOST_PULLED}
+use Rattle.ts_config.specs.declared.setup.Setup.{Setup}
 use Rattle.ts_config.specs.declared.setup.TransformLine.{TransformLine}
 use Rattle.ts_journal.specs.declared.entry.Event.{Event}
 use Rattle.ts_journal.specs.declared.entry.TheConstants.{GREATEST}
@@ -23,7 +24,7 @@ use Rattle.ts_txn.specs.CourseCover.{CoversAlone, HasEventsOn, IsAlone, IsCovere
 use Rattle.ts_phases.specs.Cover.{set_after}
 use Rattle.ts_relay.specs.Duties.{UnlessLacking, WhileGoes}
 use Rattle.ts_phases.specs.Holding.{IfTold, StepKeeps}
-use Rattle.ts_txn.specs.Making.{end_of_course}
+use Rattle.ts_txn.specs.Making.{HasFewLines, end_of_course}
 use Rattle.ts_phases.specs.View.{OriginRefuses, View, view_of}
 use Rattle.ts_txn.specs.World.{HoldsLittleOn, HoldsOn, IsSoundNow, IsSoundOn, IsSoundTxn}
 use Rattle.ts_txn.specs.declared.course.Course.{Course}
@@ -103,6 +104,12 @@ pub little_last : (Q : Type 0) (v : View) (end : TxnEnd) (step : BodyStep)
 little_last Q v end S.Goes = tt
 little_last Q v end _ = tt
 
+-- the lines of a setup and their groups stay as few
+few_stay : (setup other : Setup) (at now : ℕ) → other ≡ setup → now ≡ at → HasFewLines setup at
+    → HasFewLines other now
+few_stay setup other at now same still few =
+    subst (λ s. HasFewLines s now) (sym same) (subst (λ (n : ℕ). HasFewLines setup n) (sym still) few)
+
 module _ {C O Q : Type 0} (client : link.Ghosts C) (origin : link.Ghosts O) (both : upstream.Ghosts O C)
     (stage : transform.Ghosts Q TransformLine) where
   -- with nothing pending it has ended, or the numbers are used up
@@ -133,6 +140,7 @@ module _ {C O Q : Type 0} (client : link.Ghosts C) (origin : link.Ghosts O) (bot
           lines = lines_stay (arc_value t.core.setup) stage.rest (K.Phased P.TxnStart) u.course tt led;
           little = λ told also. little_stay (view_of client origin t.core) (K.Phased P.TxnStart) u.course tt
               led;
+          few = h.stands.few;
         };
         covered = covers (fresh_alone (view_of client origin t.core) t.main t.course a fresh h.covered)
             (view_of client origin t.core);
@@ -196,6 +204,8 @@ module _ {C O Q : Type 0} (client : link.Ghosts C) (origin : link.Ghosts O) (bot
           lines =
               lines;
           little = little;
+          few = few_stay (arc_value s.setup) (arc_value t.setup) s.plugins_at t.plugins_at
+              (ap (λ x. arc_value x) keeps.setup) keeps.plugins_at stands.few;
         };
         covered = covered;
       }

@@ -155,10 +155,15 @@ pause_after step = 0
 
 -- No continuation is there but the first: each pending event is plain, and of it; and it has its role, and an
 -- event where it is roused, or the event numbers are used up.
-pub record IsAlone (main : Option StageContinuation) (now : Context) : Type 0 where
-  pub seated : AllSeated now.log.state.pending (main ∷ [])
-  pub plain : AllPlain now.log.state.pending
-  pub of_main : IsOfStageIf now.log.state.pending now.roles MAIN main ⊎ (GREATEST ≤ now.log.state.next)
+pub record IsAloneWith (main : Option StageContinuation) (pending : List Pending) (next : ℕ)
+    (roles : List Named) : Type 0 where
+  pub seated : AllSeated pending (main ∷ [])
+  pub plain : AllPlain pending
+  pub of_main : IsOfStageIf pending roles MAIN main ⊎ (GREATEST ≤ next)
+
+-- the same of what is pending now
+abbrev pub IsAlone : Option StageContinuation → Context → Type 0
+IsAlone main now = IsAloneWith main now.log.state.pending now.log.state.next now.roles
 
 -- The duties of a body behind a step: the continuations have their roles and their events, and where the step
 -- goes on each duty has its event.

@@ -17,6 +17,7 @@ use Rattle.ts_txn.specs.CourseCover.{IsCoveredOn, StaysOnOrLacks, is_fresh_on}
 use Rattle.ts_relay.specs.Entering.{ActsAsLines}
 use Rattle.ts_phases.specs.Holding.{IfTold, IsSameLink}
 use Rattle.ts_txn.specs.LoweringCourse.{IsOfLinesOn}
+use Rattle.ts_txn.specs.Making.{HasFewLines}
 use Rattle.ts_phases.specs.View.{IsPaired, View, view_of}
 use Rattle.ts_txn.specs.declared.course.Course.{Course}
 use Rattle.ts_txn.specs.declared.course.Course.TheVariants as K
@@ -40,13 +41,14 @@ module _ {C O Q : Type 0} (client : link.Ghosts C) (origin : link.Ghosts O) (bot
     (stage : transform.Ghosts Q TransformLine) where
   -- What its step may count on: it is where it is with right where its links tell, they belong together, the
   -- transforms do what the lines say, and a body that is passed on goes through such, with little of it held
-  -- before them.
+  -- before them; and each of its hook plugins has a group.
   pub record HoldsOn (core : Core C O) (course : Course Q) : Type 0 where
     pub holds : CourseHolds client origin both stage core course
     pub pair : IsPaired both core
     pub acts : ActsAsLines stage.whole
     pub lines : IsOfLinesOn (arc_value core.setup) stage.rest course
     pub little : IfTold client.tells origin.tells (HoldsLittleOn (view_of client origin core) course)
+    pub few : HasFewLines (arc_value core.setup) core.plugins_at
 
   -- so it stands, and each of its duties has an event
   pub record IsSoundOn (core : Core C O) (main : Option StageContinuation) (course : Course Q)
