@@ -5,6 +5,7 @@ use Rattle.ts_config.specs.declared.setup.TransformLine.{TransformLine}
 use Rattle.ts_journal.specs.declared.entry.Event.{Event}
 use Rattle.ts_group.specs.Calls.{IsCalled}
 use Rattle.ts_group.specs.Context.{Context}
+use Rattle.ts_group.specs.declared.world.Want.TheVariants as W
 use Rattle.ts_link.specs.declared.link.Link as link
 use Rattle.ts_upstream.specs.declared.upstream.Upstream as upstream
 use Rattle.ts_transform.specs.declared.transform.Transform as transform
@@ -51,8 +52,9 @@ module _ {C O Q : Type 0} (client : link.Ghosts C) (origin : link.Ghosts O) (bot
     (pays : EventPays client origin stage core new step main r s a m)
     (left : LeavesRelay step s result mid u m b) where
   owes_here : EventOwes client origin both stage core new a b role main u (K.Relaying r) result
+      W.Nothing
   owes_here = record {
-    sound =
+    keeps =
         let v = view_of client origin core in
         let w = view_of client origin new in
         sound_led client origin both stage core new (K.Relaying r) (course_after s step) result u b
@@ -114,7 +116,8 @@ module _ {C O Q : Type 0} (client : link.Ghosts C) (origin : link.Ghosts O) (bot
       x.next roles) a role event) is called
 
   pub relay_owes : EventOwes client origin both stage core new a b role main u course result
-  relay_owes = subst (λ y. EventOwes client origin both stage core new a b role main u y result) (sym is)
+      W.Nothing
+  relay_owes = subst (λ y. EventOwes client origin both stage core new a b role main u y result W.Nothing) (sym is)
       (owes_here client origin both stage core new r s main mid u role event a m b step result called_here
       leads handles pays left)
 

@@ -1,7 +1,10 @@
 -- The event of the next step where no body is passed on, said of the course on which the transaction was.
-use Rattle.std.proofs.Common.{◌≡◌, ℕ, Option, ap, sym, ◌∙◌}
+use Rattle.std.proofs.Common.{◌≡◌, ℕ, Option, ap, refl, sym, ◌∙◌}
 use Rattle.ts_config.specs.declared.setup.TransformLine.{TransformLine}
+use Rattle.ts_group.specs.Answers.{MatchWant}
 use Rattle.ts_group.specs.Context.{Context}
+use Rattle.ts_group.specs.declared.world.Want.{Want}
+use Rattle.ts_group.specs.declared.world.Want.TheVariants as W
 use Rattle.ts_link.specs.declared.link.Link as link
 use Rattle.ts_upstream.specs.declared.upstream.Upstream as upstream
 use Rattle.ts_transform.specs.declared.transform.Transform as transform
@@ -25,11 +28,21 @@ phase_taken {Q} course p q is same = is ∙ ap {B = Course Q} (λ x. K.Phased x)
 pub owes_alone : {C O Q : Type 0} (client : link.Ghosts C) (origin : link.Ghosts O)
     (both : upstream.Ghosts O C) (stage : transform.Ghosts Q TransformLine) (core new : Core C O)
     (a b : Context) (role : ℕ) (main mid u : Option StageContinuation) → mid ≡ unroused main
-    → (course : Course Q) → PassesNoBody course → (result : Course Q)
-    → EventOwes client origin both stage core new a b MAIN mid u course result
-    → EventOwes client origin both stage core new a b role main u course result
-owes_alone client origin both stage core new a b role main mid u quiet course none result h = record {
-  sound = h.sound;
+    → (course : Course Q) → PassesNoBody course → (result : Course Q) (want : Want (Unit {0}))
+    → EventOwes client origin both stage core new a b MAIN mid u course result want
+    → EventOwes client origin both stage core new a b role main u course result want
+owes_alone client origin both stage core new a b role main mid u quiet course none result want h = record {
+  keeps = h.keeps;
   within = h.within;
   handles = handles_alone client origin both core new a b role main mid quiet course none result h.handles;
 }
+
+-- nobody is asked, and so what is to hold then does
+pub asks_nobody : {A : Type 0} (want : Want A) (P : Type 0) → MatchWant want P (λ group question. ⊥)
+    → want ≡ W.Nothing
+asks_nobody W.Nothing P h = refl
+asks_nobody (W.Ask group question) P h = absurd h
+
+pub sound_unasked : {A : Type 0} (want : Want A) (P : Type 0) → MatchWant want P (λ group question. ⊥) → P
+sound_unasked W.Nothing P h = h
+sound_unasked (W.Ask group question) P h = absurd h

@@ -1,5 +1,6 @@
 //! How far a transaction is, and where an event leads it from there.
 ghost use Rattle.std.specs.Prelude.{◌≡◌, true};
+ghost use Rattle.ts_group.specs.declared.world.Want.TheVariants as Want;
 ghost use Rattle.ts_txn.specs.CourseCover.{IsAlone};
 ghost use Rattle.ts_txn.specs.EventsOwed.{EventOwes};
 ghost use Rattle.ts_txn.specs.LoweringCourse.{PaysEvents};
@@ -40,7 +41,7 @@ pub fn write_rest<C: Link, O: Upstream<C>, P: Transform<Line = TransformLine> + 
         core.old (Course.Finishing end) }
     requires alone { IsAlone main.old cx.old }
     ensures owes { EventOwes C.Link O.Link O.Upstream.own P.Transform core.old core.new cx.old cx.new
-        MAIN main.old main.new (Course.Finishing end) result }
+        MAIN main.old main.new (Course.Finishing end) result Want.Nothing }
     ensures pays { PaysEvents C.Link O.Link O.Upstream.own P.Transform
         core.old core.new (Course.Finishing end) result cx.old cx.new }
 {
@@ -62,7 +63,7 @@ pub fn enter_relay<C: Link, O: Upstream<C>, P: Transform<Line = TransformLine> +
         core.old (Course.Phased (Phase.ResponseTransform request head)) }
     requires alone { IsAlone main.old cx.old }
     ensures owes { EventOwes C.Link O.Link O.Upstream.own P.Transform core.old core.new cx.old cx.new
-        MAIN main.old main.new (Course.Phased (Phase.ResponseTransform request head)) result }
+        MAIN main.old main.new (Course.Phased (Phase.ResponseTransform request head)) result Want.Nothing }
     ensures pays { PaysEvents C.Link O.Link O.Upstream.own P.Transform
         core.old core.new (Course.Phased (Phase.ResponseTransform request head)) result cx.old cx.new }
 {

@@ -168,8 +168,7 @@ impl<C: Link + Drop, O: Upstream<C> + Drop, P: Transform<Line = TransformLine> +
             role,
             event,
             cx,
-        );
-        Want::Nothing
+        )
     }
 
     #[tactic(auto, using(ts_group::proofs::Grows::grows_refl, crate::proofs::LoweringCourse::hears_same))]

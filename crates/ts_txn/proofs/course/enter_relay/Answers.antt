@@ -26,7 +26,7 @@ use Rattle.ts_txn.proofs.course.enter_relay.Goals as goal
 -- Memory lacked for the head.
 pub returns-in_default-clause-owes : goal.returns-in_default-clause-owes
 returns-in_default-clause-owes g c = record {
-  sound =
+  keeps =
       let core = c.args.core.now in
       let new = c.queue_relay.new.core in
       sound_here g.C.Link g.O.Link g.O.Upstream g.P.Transform core new
@@ -64,7 +64,7 @@ begin_body-step-requires-clause-fact g c = λ told also.
 
 pub returns-clause-owes : goal.returns-clause-owes
 returns-clause-owes g c = record {
-  sound =
+  keeps =
       let core = c.args.core.now in
       let new = c.queue_relay.new.core in
       let relay = c.begin_body-step.new.relay in

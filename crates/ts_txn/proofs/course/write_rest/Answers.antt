@@ -13,7 +13,7 @@ use Rattle.ts_txn.proofs.course.write_rest.Goals as goal
 
 pub returns-clause-owes : goal.returns-clause-owes
 returns-clause-owes g c = record {
-  sound =
+  keeps =
       let core = c.args.core.now in
       let new = c.send_rest-step.new.core in
       let v = view_of g.C.Link g.O.Link new in

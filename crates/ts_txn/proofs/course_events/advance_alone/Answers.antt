@@ -13,7 +13,7 @@ use Rattle.ts_txn.proofs.course_events.advance_alone.Goals as goal
 -- An event of another continuation.
 pub returns-then-role-ne-MAIN-clause-owes : goal.returns-then-role-ne-MAIN-clause-owes
 returns-then-role-ne-MAIN-clause-owes g c = record {
-  sound = sound_other g.C.Link g.O.Link g.O.Upstream g.P.Transform c.args.core.now c.args.main.now
+  keeps = sound_other g.C.Link g.O.Link g.O.Upstream g.P.Transform c.args.core.now c.args.main.now
       c.args.course.now c.requires.none c.args.cx.now c.args.role c.args.event c.requires.called
       c.if-role-ne-MAIN.true;
   within = acts_none most_set c.args.cx.now c.requires.turn;
@@ -28,7 +28,7 @@ returns-then-role-ne-MAIN-clause-pays g c = stays_on g.C.Link g.O.Link g.O.Upstr
 -- One at which nobody works.
 pub returns-then-not-works-clause-owes : goal.returns-then-not-works-clause-owes
 returns-then-not-works-clause-owes g c = record {
-  sound = sound_quiet g.C.Link g.O.Link g.O.Upstream g.P.Transform c.args.core.now c.args.main.now
+  keeps = sound_quiet g.C.Link g.O.Link g.O.Upstream g.P.Transform c.args.core.now c.args.main.now
       c.args.course.now c.requires.none c.args.cx.now c.args.role c.args.event c.requires.called
       (sym c.works.ensures ∙ c.if-not-works.true);
   within = acts_none most_set c.args.cx.now c.requires.turn;
@@ -51,11 +51,11 @@ pub returns-clause-owes : goal.returns-clause-owes
 returns-clause-owes g c =
     subst (λ x. EventOwes g.C.Link g.O.Link g.O.Upstream g.P.Transform c.args.core.now c.make_next-is.new.core
     c.args.cx.now c.make_next-is.new.cx c.args.role c.args.main.now c.make_next-is.new.main c.args.course.now
-    x) (sym c.replace.ensures.after)
+    x c.make_next-is.result.1) (sym c.replace.ensures.after)
     (owes_alone g.C.Link g.O.Link g.O.Upstream g.P.Transform c.args.core.now c.make_next-is.new.core
     c.args.cx.now c.make_next-is.new.cx c.args.role c.args.main.now c.unrouse.new.slot
-    c.make_next-is.new.main c.unrouse.ensures c.args.course.now c.requires.none c.make_next-is.result
-    c.make_next-is.ensures.owes)
+    c.make_next-is.new.main c.unrouse.ensures c.args.course.now c.requires.none c.make_next-is.result.0
+    c.make_next-is.result.1 c.make_next-is.ensures.owes)
 
 pub returns-clause-pays : goal.returns-clause-pays
 returns-clause-pays g c =

@@ -14,7 +14,7 @@ use Rattle.ts_txn.proofs.course_events.make_step.Goals as goal
 
 pub returns-clause-owes : goal.returns-clause-owes
 returns-clause-owes g c = record {
-  sound =
+  keeps =
       let core = c.args.core.now in
       let new = c.step-step.new.self in
       sound_led g.C.Link g.O.Link g.O.Upstream g.P.Transform core new (K.Phased c.args.phase)

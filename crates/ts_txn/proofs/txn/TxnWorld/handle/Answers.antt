@@ -1,7 +1,14 @@
 -- An event lowers the number of its transaction, and leads it on its course.
 use Rattle.ts_txn.proofs.Events.{takes_event}
 use Rattle.ts_txn.proofs.LoweringCourse.{transaction_falls}
+use Rattle.ts_txn.proofs.NextSteps.{asks_nobody, sound_unasked}
 use Rattle.ts_txn.proofs.txn.TxnWorld.handle.Goals as goal
+
+pub returns-clause-sound : goal.returns-clause-sound
+returns-clause-sound g c = sound_unasked c.advance.result _ c.advance.ensures.owes.keeps
+
+pub returns-clause-nothing : goal.returns-clause-nothing
+returns-clause-nothing g c = asks_nobody c.advance.result _ c.advance.ensures.owes.keeps
 
 pub returns-clause-takes : goal.returns-clause-takes
 returns-clause-takes g c =
