@@ -12,8 +12,8 @@ use ts_net::{
     HalfClosed, LINGER, Lingering, MOST_LINGERING, MonotonicClock, SocketLink, Stream, StreamLink,
 };
 
-// How long the answer is. Of so much the system drops the greater part where a connection is closed over bytes
-// that wait unread.
+// How long the answer is. Of so much the system drops the greater part where a connection is closed over
+// bytes that wait unread.
 const ANSWER: usize = 1_000_000;
 
 const REQUEST: &[u8] = b"GET / HTTP/1.1\r\nHost: a.example\r\n\r\n";
@@ -31,8 +31,8 @@ const WHOLE: Heard = Heard {
     end: Got::End,
 };
 
-// A client that has sent all of its bytes and read so many, and the connection, of which one read was made and
-// the whole answer was written.
+// A client that has sent all of its bytes and read so many, and the connection, of which one read was made
+// and the whole answer was written.
 #[derive(Drop)]
 struct Served {
     client: SocketLink,
