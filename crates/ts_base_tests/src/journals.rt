@@ -33,6 +33,21 @@ fn a_turn_is_recorded(rt: HostRuntime) {
     assert!(rt; journal.event(1).is_some());
 }
 
+// A journal that gives its memory back has what it had, and room for what it was to keep.
+#[test]
+fn a_journal_is_trimmed(rt: HostRuntime) {
+    let mut journal = Journal::make(rt.alloc(), 0).expect(&rt, MEMORY);
+    journal.reserve(4).expect(&rt, MEMORY);
+    journal.push(Entry::Took { turn: 1, seat: 3 });
+    journal.push(Entry::Made { key: KEY });
+    journal.trim(1).expect(&rt, MEMORY);
+    let kept = [Entry::Took { turn: 1, seat: 3 }, Entry::Made { key: KEY }];
+    assert!(rt; journal.entries() == kept.as_slice());
+    assert!(rt; journal.live() == [KEY].as_slice());
+    journal.push(Entry::Gave { turn: 1 });
+    assert!(rt; !journal.is_held() && journal.turns() == 1);
+}
+
 // A group that has its own continuation handles one event of it and destroys it.
 #[test]
 fn a_key_goes(rt: HostRuntime) {
