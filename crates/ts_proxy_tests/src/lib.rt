@@ -7,6 +7,8 @@ mod command;
 #[cfg(test)]
 mod comparison;
 #[cfg(test)]
+mod moments;
+#[cfg(test)]
 mod parts;
 #[cfg(test)]
 mod recording;

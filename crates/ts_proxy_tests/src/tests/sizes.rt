@@ -1,7 +1,10 @@
 //! Recordings as large as they may be: in transactions, in bytes, and in the pieces of one body.
 
-use crate::command::{ON_1, ON_4, ON_64, Remains, failing_sink, left_by, shelf_of, wide_sink};
+use crate::command::{
+    ON_1, ON_4, ON_64, Remains, failing_sink, left_by, replayed, shelf_of, wide_sink,
+};
 use crate::comparison::{Comparison, Wanted, compare, done, stopped};
+use crate::moments::late_events;
 use crate::recording::{MOST_PIECE, at_once, in_pieces, recording_of};
 use crate::report::report_of;
 use crate::row::check_with;
@@ -63,6 +66,20 @@ fn most_transactions(rt: HostRuntime) -> Result<(), Fail> {
         )?;
         assert_eq!(rt; found, Comparison::AsStated, "at {words:?}");
     }
+    Ok(())
+}
+
+// Of as many transactions as there may be, none of which waits for its sides, 4 threads miss none: an event of
+// a group that a thread had missed would be handled 10 ms later.
+#[test]
+fn no_transaction_is_missed(rt: HostRuntime) -> Result<(), Fail> {
+    let alloc = rt.alloc();
+    let exchanges = vec![in alloc; at_once(GET, ABC); MOST_TXNS]?;
+    let recording = recording_of(alloc, exchanges.as_slice())?;
+    let left = replayed(&rt, alloc, ON_4, LESS, recording.as_slice())?;
+    assert_eq!(rt; left.status, 0);
+    assert_eq!(rt; left.journals.len(), MOST_TXNS);
+    assert_eq!(rt; late_events(left.journals.as_slice()), 0);
     Ok(())
 }
 
