@@ -175,6 +175,24 @@ fn nobody_lingers_longer_and_no_more_linger_than_may(rt: HostRuntime) -> Result<
     Ok(())
 }
 
+// What a peer still sends to a connection that lingers no longer is refused, whatever closed it.
+#[test]
+fn who_lingers_no_longer_is_closed(rt: HostRuntime) -> Result<(), Fail> {
+    let clock = MonotonicClock::new(&rt);
+    let mut lingering = Lingering::new(rt.alloc())?;
+    let (mut late, served) = pair(&rt)?;
+    lingering.keep(served, 7)?;
+    lingering.look(LINGER + 7);
+    let (mut last, served) = pair(&rt)?;
+    lingering.keep(served, clock.now())?;
+    lingering.finish(&clock);
+    assert!(rt; lingering.count() == 0);
+    assert!(rt; late.write(b"late") == Put::Took(4) && last.write(b"late") == Put::Took(4));
+    clock.pause(5);
+    assert!(rt; late.write(b"later") == Put::Failed && last.write(b"later") == Put::Failed);
+    Ok(())
+}
+
 #[test]
 fn a_connection_that_is_half_closed_is_read_on(rt: HostRuntime) -> Result<(), Fail> {
     let clock = MonotonicClock::new(&rt);

@@ -1,10 +1,11 @@
 //! Who listens: clients by number, and which errors are faults.
 ghost use Rattle.std.specs.Prelude.{⊤};
 
-use crate::loopback::{accept, dial, listen};
+use crate::loopback::{accept, dial, listen, pair, read_waiting};
 use mio::net::TcpStream;
 use std::io;
 use std::test::Fail;
+use ts_link::Got;
 use ts_net::{Acceptor, Arrival, Listener, is_final};
 
 #[test]
@@ -17,6 +18,44 @@ fn clients_have_their_number_as_name(rt: HostRuntime) -> Result<(), Fail> {
     assert!(rt; accept(&rt, &mut listener)?.name() == 1);
     assert!(rt; accept(&rt, &mut listener)?.name() == 2);
     assert!(rt; listener.given() == 2 && listener.faults() == 0 && listener.ends() == 0);
+    Ok(())
+}
+
+// More clients than a backlog of 128 holds.
+const BURST: u64 = 200;
+
+#[test]
+fn a_burst_of_clients_is_accepted(rt: HostRuntime) -> Result<(), Fail> {
+    let mut listener = listen(&rt)?;
+    let mut links = Vec::new(rt.alloc());
+    for _ in 0..BURST {
+        links.push(dial(&rt, &listener)?)?;
+    }
+    for number in 1..=BURST {
+        let Arrival::Client(link) = listener.accept() else {
+            panic!(rt; "no client {number}");
+        };
+        assert!(rt; link.name() == number);
+        links.push(link)?;
+    }
+    assert!(rt; matches!(listener.accept(), Arrival::Again));
+    Ok(())
+}
+
+#[test]
+fn both_ends_send_at_once(rt: HostRuntime) -> Result<(), Fail> {
+    let (client, served) = pair(&rt)?;
+    assert!(rt; client.into_stream().nodelay()? && served.into_stream().nodelay()?);
+    Ok(())
+}
+
+// A client that left before it was accepted comes, and has ended.
+#[test]
+fn a_client_that_left_has_ended(rt: HostRuntime) -> Result<(), Fail> {
+    let mut listener = listen(&rt)?;
+    drop(dial(&rt, &listener)?);
+    let mut served = accept(&rt, &mut listener)?;
+    assert!(rt; read_waiting(&rt, &mut served, &mut [0]) == Got::End);
     Ok(())
 }
 
