@@ -1,7 +1,7 @@
 -- How clients linger whose connections are closed in stages: a server first shuts the write side alone, and
 -- then reads on until the client closes too, since bytes that it has not read when it closes make the system
 -- drop what the client has not yet got (RFC 9112, section 9.6).
-use Rattle.std.specs.Prelude.{◌≡◌, ◌≢◌, ℕ, ◌+◌, List, [], ◌∷◌, ◌++◌, length, drop, filter, nat_le}
+use Rattle.std.specs.Prelude.{◌≡◌, ◌≢◌, ℕ, ◌+◌, ◌-◌, List, [], ◌∷◌, ◌++◌, length, drop, filter, nat_le}
 use Rattle.std.specs.Prelude.{slice_index_or, slice_set, Bool, true, false, not, if◌then◌else◌, Result}
 use Rattle.std.specs.List.{remove}
 use Rattle.std.specs.declared.io.Error.{Error}
@@ -41,6 +41,10 @@ in_time moment waiting = filter (λ h. not (nat_le h.until moment)) waiting
 abbrev pub with_room : {S : Type 0} → List (HalfClosed S) → List (HalfClosed S)
 with_room waiting = if nat_le MOST_LINGERING (length waiting) then drop 1 waiting else waiting
 
+-- where one made room the others move up by a place, and the turn with them
+abbrev pub turn_with_room : {S : Type 0} → List (HalfClosed S) → ℕ → ℕ
+turn_with_room waiting turn = if nat_le MOST_LINGERING (length waiting) then turn - 1 else turn
+
 -- one more lingers, whose write side was shut at this moment
 pub record KeepsOne {S : Type 0} (shuts : S → S → Type 0) (stream : S) (moment : ℕ) (old new : Lingers S) :
     Type 0 where
@@ -48,6 +52,7 @@ pub record KeepsOne {S : Type 0} (shuts : S → S → Type 0) (stream : S) (mome
   pub waiting : new.waiting ≡ with_room old.waiting ++ last ∷ []
   pub shut : shuts stream last.stream
   pub until : last.until ≡ moment_after moment LINGER
+  pub turn : new.turn ≡ turn_with_room old.waiting old.turn
 
 -- the place whose turn it is, of so many: behind the last comes the first
 abbrev pub turn_place : ℕ → ℕ → ℕ
@@ -71,7 +76,13 @@ pub record PassesInTurn {S : Type 0} (reads : S → S → Result ℕ Error → L
   pub none : old ≡ [] → new.waiting ≡ []
   pub one : old ≢ [] → PassesOne reads (turn_place turn (length old)) old new
 
+-- By a clock that never goes back, those whose time is over came first. The others move up by so many places,
+-- and the turn with them.
+abbrev pub turn_in_time : {S : Type 0} → ℕ → List (HalfClosed S) → ℕ → ℕ
+turn_in_time moment waiting turn = turn - (length waiting - length (in_time moment waiting))
+
 -- those whose time was over at a moment are closed, and one of the others was read, in turn
 abbrev pub LooksAt : {S : Type 0} → (S → S → Result ℕ Error → List ℕ → Type 0) → ℕ → Lingers S → Lingers S
     → Type 0
-LooksAt reads moment old new = PassesInTurn reads old.turn (in_time moment old.waiting) new
+LooksAt reads moment old new =
+    PassesInTurn reads (turn_in_time moment old.waiting old.turn) (in_time moment old.waiting) new

@@ -1,6 +1,8 @@
 //! Clients that were answered, and linger until they have their answer.
-ghost use Rattle.std.specs.Prelude.{◌≡◌, ◌≢◌, ◌<◌, ◌≤◌, [], length, IfOk, OnOk, OnErr};
-ghost use Rattle.ts_net.specs.Lingers.{KeepsOne, LooksAt, PassesOne, PassesOver, in_time, with_room};
+ghost use Rattle.std.specs.Prelude.{◌≡◌, ◌≢◌, ◌<◌, ◌≤◌, [], length, IfOk};
+ghost use Rattle.std.specs.Vec.{vec_capacity};
+ghost use Rattle.ts_net.specs.Lingers.{KeepsOne, LooksAt, PassesOne, PassesOver, in_time, turn_in_time};
+ghost use Rattle.ts_net.specs.Lingers.{turn_with_room, with_room};
 
 use crate::half_closed::HalfClosed;
 use crate::stream::Stream;
@@ -18,8 +20,8 @@ pub const PASSED_AT_ONCE: usize = 65_536;
 /// How many milliseconds whatever lingers is kept once nobody else is served, at most.
 pub const LAST_LINGER: u64 = 100;
 
-/// Connections whose write side is shut. Each is closed where its peer has ended or gone, where its time is
-/// over, or where too many came after it.
+/// Connections whose write side is shut. Each is closed where its peer has ended or gone, at the first look
+/// after its time, or where too many came after it.
 #[derive(Drop)]
 pub struct Lingering<S> {
     waiting: Vec<HalfClosed<S>>,
@@ -32,29 +34,36 @@ impl<S> Model for Lingering<S> {
 
     ghost Value = { Lingers S };
 
-    ghost use Rattle.std.specs.Prelude.{◌≤◌, ◌<◌, length};
-    ghost use Rattle.ts_net.specs.declared.lingering.TheConstants.{MOST_LINGERING};
+    ghost use Rattle.std.specs.Prelude.{◌≡◌, ◌≤◌, length};
+    ghost use Rattle.std.specs.Vec.{vec_capacity};
+    ghost use Rattle.ts_net.specs.declared.lingering.TheConstants.{MOST_LINGERING, PASSED_AT_ONCE};
 
     ghost view = { λ l. record { waiting = l.waiting.items; turn = l.turn } };
 
-    ghost invariant = { λ l. (length l.waiting.items ≤ MOST_LINGERING) × (0 < length l.room.items) };
+    ghost invariant = { λ l. (length l.waiting.items ≤ MOST_LINGERING)
+        × (MOST_LINGERING ≤ vec_capacity l.waiting) × (length l.room.items ≡ PASSED_AT_ONCE) };
 }
 
 // The room of one read.
 fn read_room(alloc: Global) -> Result<Vec<u8>, NoMemory>
-    ensures { IfOk result (λ room. 0 < length room.items) }
+    ensures { IfOk result (λ room. length room.items ≡ PASSED_AT_ONCE) }
 {
     let mut room = Vec::new(alloc);
     room.resize(PASSED_AT_ONCE, 0)?;
     Ok(room)
 }
 
-// Closes the one that came first, where no more may linger.
-fn make_room<S: Drop>(waiting: &mut Vec<HalfClosed<S>>)
-    ensures { waiting.new.items ≡ with_room waiting.old.items }
+// Closes the one that came first, where no more may linger. The others move up, and the turn with them.
+fn make_room<S: Drop>(waiting: &mut Vec<HalfClosed<S>>, turn: &mut usize)
+    requires { length waiting.old.items ≤ MOST_LINGERING }
+    ensures items { waiting.new.items ≡ with_room waiting.old.items }
+    ensures turn { turn.new ≡ turn_with_room waiting.old.items turn.old }
+    ensures room { length waiting.new.items < MOST_LINGERING }
+    ensures capacity { vec_capacity waiting.new ≡ vec_capacity waiting.old }
 {
     if waiting.len() >= MOST_LINGERING {
         drop(waiting.remove(0));
+        *turn = turn.saturating_sub(1);
     }
 }
 
@@ -62,8 +71,21 @@ fn make_room<S: Drop>(waiting: &mut Vec<HalfClosed<S>>)
 fn close_overdue<S: Stream + Drop>(waiting: &mut Vec<HalfClosed<S>>, moment: u64)
     ensures in_time { waiting.new.items ≡ in_time moment waiting.old.items }
     ensures count { length waiting.new.items ≤ length waiting.old.items }
+    ensures capacity { vec_capacity waiting.new ≡ vec_capacity waiting.old }
 {
     waiting.retain(|half| !half.is_over(moment));
+}
+
+// The same. By a clock that never goes back they came first: the others move up, and the turn with them.
+fn move_up<S: Stream + Drop>(waiting: &mut Vec<HalfClosed<S>>, turn: &mut usize, moment: u64)
+    ensures in_time { waiting.new.items ≡ in_time moment waiting.old.items }
+    ensures turn { turn.new ≡ turn_in_time moment waiting.old.items turn.old }
+    ensures count { length waiting.new.items ≤ length waiting.old.items }
+    ensures capacity { vec_capacity waiting.new ≡ vec_capacity waiting.old }
+{
+    let before = waiting.len();
+    close_overdue(waiting, moment);
+    *turn = turn.saturating_sub(before - waiting.len());
 }
 
 // Reads a connection once, and answers whether more may come.
@@ -86,7 +108,8 @@ fn pass_one<S: Stream + Drop>(
     ensures passes { PassesOne S.reads turn.old waiting.old.items
         (record { waiting = waiting.new.items; turn = turn.new }) }
     ensures count { length waiting.new.items ≤ length waiting.old.items }
-    ensures room { 0 < length room.new.items }
+    ensures capacity { vec_capacity waiting.new ≡ vec_capacity waiting.old }
+    ensures room { length room.new.items ≡ length room.old.items }
 {
     if pass_over(&mut waiting[*turn], room) {
         *turn += 1;
@@ -101,7 +124,7 @@ impl<S: Stream + Drop> Lingering<S> {
         ensures { IfOk result (λ l. l.waiting ≡ []) }
     {
         Ok(Lingering {
-            waiting: Vec::new(alloc),
+            waiting: Vec::with_capacity(alloc, MOST_LINGERING)?,
             turn: 0,
             room: read_room(alloc)?,
         })
@@ -116,23 +139,20 @@ impl<S: Stream + Drop> Lingering<S> {
     }
 
     /// Shuts the write side of a client's connection at this moment, and keeps it. Where as many linger as
-    /// may, the one that came first is closed. At want of memory the connection is closed.
-    pub fn keep(&mut self, client: StreamLink<S>, moment: u64) -> Result<(), NoMemory>
-        ensures kept { OnOk result (KeepsOne S.shuts client.stream moment self.old self.new) }
-        ensures lack { OnErr result (self.new.waiting ≡ with_room self.old.waiting) }
-        ensures turn { self.new.turn ≡ self.old.turn }
+    /// may, the one that came first is closed.
+    pub fn keep(&mut self, client: StreamLink<S>, moment: u64)
+        ensures { KeepsOne S.shuts client.stream moment self.old self.new }
     {
-        make_room(&mut self.waiting);
+        make_room(&mut self.waiting, &mut self.turn);
         self.waiting
-            .push(HalfClosed::of(client.into_stream(), moment))?;
-        Ok(())
+            .push_reserved(HalfClosed::of(client.into_stream(), moment));
     }
 
     /// Closes the connections whose time is over at this moment, and reads one of the others, in turn.
     pub fn look(&mut self, moment: u64)
         ensures { LooksAt S.reads moment self.old self.new }
     {
-        close_overdue(&mut self.waiting, moment);
+        move_up(&mut self.waiting, &mut self.turn, moment);
         if self.waiting.is_empty() {
             return;
         }
@@ -143,18 +163,22 @@ impl<S: Stream + Drop> Lingering<S> {
     }
 
     /// Goes on with those who linger, until there are none, or for `LAST_LINGER` milliseconds of this clock,
-    /// and for no more pauses of a millisecond than that. Then all are closed.
+    /// and for no more pauses of a millisecond than that. Then all are closed. Even where the clock jumps,
+    /// each whose time is not over is read once at least.
     pub fn finish<C: Clock>(&mut self, clock: &C)
         ensures { self.new.waiting ≡ [] }
     {
         let end = clock.now().saturating_add(LAST_LINGER);
         for _ in 0..LAST_LINGER {
             let moment = clock.now();
-            if self.waiting.is_empty() || end <= moment {
+            if self.waiting.is_empty() {
                 break;
             }
             for _ in 0..self.waiting.len() {
                 self.look(moment);
+            }
+            if end <= moment {
+                break;
             }
             clock.pause(1);
         }

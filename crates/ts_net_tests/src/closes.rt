@@ -5,6 +5,7 @@ use crate::loopback::{PATIENCE, pair, read_waiting, write_all};
 use mio::net::TcpStream;
 use std::io::ErrorKind;
 use std::net::Net;
+use std::sync::atomic::{AtomicU64, Ordering};
 use std::test::Fail;
 use std::{io, time};
 use ts_link::{Clock, Got, Link, Put};
@@ -101,7 +102,7 @@ fn an_answer_over_an_unread_body_comes_whole(rt: HostRuntime) -> Result<(), Fail
             connection,
             read,
         } = serve(&rt, body.as_slice(), &mut room)?;
-        lingering.keep(connection, clock.now())?;
+        lingering.keep(connection, clock.now());
         assert!(rt; hear(&rt, &mut client, read, sends, &mut lingering) == WHOLE);
         drop(client);
         clock.pause(5);
@@ -128,10 +129,46 @@ fn an_answer_before_a_second_request_comes_whole(rt: HostRuntime) -> Result<(), 
     } = serve(&rt, both.as_slice(), &mut room)?;
     assert!(rt; room.as_slice() == REQUEST);
     let before = clock.now();
-    lingering.keep(connection, before)?;
+    lingering.keep(connection, before);
     lingering.finish(&clock);
     assert!(rt; lingering.count() == 0);
     assert!(rt; clock.now() < before.saturating_add(1_000));
+    assert!(rt; hear(&rt, &mut client, read, false, &mut lingering) == WHOLE);
+    Ok(())
+}
+
+// A clock that jumps: each moment that it tells is a second after the last one.
+#[derive(Drop)]
+struct JumpingClock {
+    moment: AtomicU64,
+}
+
+impl Clock for JumpingClock {
+    fn now(&self) -> u64 {
+        self.moment.fetch_add(1_000, Ordering::SeqCst)
+    }
+
+    fn pause(&self, _ms: u64) {}
+}
+
+// A request with a body of 100 bytes, of which 37 bytes are read; and the clock jumps over all the time in
+// which whoever lingers is kept at the end.
+#[test]
+fn an_answer_comes_whole_where_the_clock_jumps(rt: HostRuntime) -> Result<(), Fail> {
+    let clock = JumpingClock {
+        moment: AtomicU64::new(0),
+    };
+    let mut lingering = Lingering::new(rt.alloc())?;
+    let body = vec![in rt.alloc(); b'b'; 100]?;
+    let mut room = [0u8; 37];
+    let Served {
+        mut client,
+        connection,
+        read,
+    } = serve(&rt, body.as_slice(), &mut room)?;
+    lingering.keep(connection, clock.now());
+    lingering.finish(&clock);
+    assert!(rt; lingering.count() == 0);
     assert!(rt; hear(&rt, &mut client, read, false, &mut lingering) == WHOLE);
     Ok(())
 }
@@ -162,7 +199,7 @@ impl Stream for Silent {
 fn nobody_lingers_longer_and_no_more_linger_than_may(rt: HostRuntime) -> Result<(), Fail> {
     let mut lingering = Lingering::new(rt.alloc())?;
     for moment in 0..300u64 {
-        lingering.keep(StreamLink::new(Silent, 0), moment)?;
+        lingering.keep(StreamLink::new(Silent, 0), moment);
     }
     assert!(rt; lingering.count() == MOST_LINGERING);
     // The first that was kept has come at 44.
@@ -181,10 +218,10 @@ fn who_lingers_no_longer_is_closed(rt: HostRuntime) -> Result<(), Fail> {
     let clock = MonotonicClock::new(&rt);
     let mut lingering = Lingering::new(rt.alloc())?;
     let (mut late, served) = pair(&rt)?;
-    lingering.keep(served, 7)?;
+    lingering.keep(served, 7);
     lingering.look(LINGER + 7);
     let (mut last, served) = pair(&rt)?;
-    lingering.keep(served, clock.now())?;
+    lingering.keep(served, clock.now());
     lingering.finish(&clock);
     assert!(rt; lingering.count() == 0);
     assert!(rt; late.write(b"late") == Put::Took(4) && last.write(b"late") == Put::Took(4));

@@ -2,10 +2,11 @@ use Rattle.std.proofs.Common.{rules}
 use Rattle.ts_net.proofs.lingering.Lingering.keep.Goals as goal
 
 -- the last of those who linger is the client that was shut
-pub returns-clause-kept : goal.returns-clause-kept
-returns-clause-kept g c = record {
+pub returns : goal.returns
+returns g c = record {
   last = c.of.result;
   waiting = search rules;
   shut = search rules;
   until = search rules;
+  turn = search rules;
 }
