@@ -7,7 +7,8 @@ use std::time::Duration;
 use std::{thread, time};
 use ts_link::Clock;
 
-/// The system's monotonic clock. It tells the moment in milliseconds since some start.
+/// The system's monotonic clock. It tells the moment in milliseconds since some start. A clock that cannot be
+/// read stands at 0.
 #[derive(Drop)]
 pub struct MonotonicClock<'a, R> {
     rt: &'a R,
@@ -27,7 +28,6 @@ pub fn whole_milliseconds(time: Duration) -> u64
     u64::try_from(time.as_millis()).unwrap_or(u64::MAX)
 }
 
-// A clock that cannot be read stands at 0.
 impl<'a, R: time::Clock> Clock for MonotonicClock<'a, R> {
     fn now(&self) -> u64 {
         match self.rt.monotonic() {

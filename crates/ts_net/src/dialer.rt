@@ -53,8 +53,8 @@ impl<'a, R: Net> Connector for SystemConnector<'a, R> {
     }
 }
 
-/// What comes of a dial. Until the connection stands, reads and writes of its link answer `Again`; if it
-/// never does, they answer `Failed`.
+/// What comes of a dial. Until the connection stands, reads and writes of its link answer `Again`. Where it is
+/// refused late, the next call on it answers `Failed`, and later reads `End`.
 #[derive(Drop)]
 pub enum Dialing<S> {
     Origin(StreamLink<S>),

@@ -8,7 +8,8 @@ use crate::heard::got_of;
 use crate::stream::Stream;
 use ts_link::Got;
 
-/// How many milliseconds a connection whose write side was shut is kept at most.
+/// How many milliseconds the time of a connection lasts whose write side was shut. It is closed at the first
+/// look after its time.
 pub const LINGER: u64 = 5_000;
 
 /// A connection whose write side is shut, and the moment at which its time is over.

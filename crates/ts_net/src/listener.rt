@@ -36,7 +36,8 @@ impl Acceptor for TcpListener {
     }
 }
 
-/// What comes of an accept. After `Again` a later one may give a client, after `Closed` and `Failed` none.
+/// What comes of an accept. After `Again` a later one may give a client, after `Closed` and `Failed` none:
+/// `Failed` where the system says that none can come, `Closed` where clients cannot be counted any more.
 #[derive(Drop)]
 pub enum Arrival<S> {
     Client(StreamLink<S>),
@@ -114,8 +115,7 @@ impl Listener<TcpListener> {
 }
 
 impl<A: Acceptor> Listener<A> {
-    /// The next client, if one is there. Its name is the number of clients given, itself among them. `Failed`
-    /// comes where no later accept can succeed, and `Closed` where the clients cannot be counted any more.
+    /// The next client, if one is there. Its name is the number of clients given, itself among them.
     pub fn accept(&mut self) -> Arrival<A::Stream>
         ensures heard { IsArrival A.accepts self.old self.new.acceptor result }
         ensures after { self.new ≡ after_arrival result self.new.acceptor self.old }

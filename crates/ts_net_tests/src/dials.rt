@@ -5,7 +5,7 @@ use ts_link::{Got, Link, Put};
 use ts_net::{Dialer, Dialing, SystemConnector};
 
 #[test]
-fn a_dial_waits_for_nobody(rt: HostRuntime) -> Result<(), Fail> {
+fn a_dial_gives_an_origin(rt: HostRuntime) -> Result<(), Fail> {
     let mut listener = listen(&rt)?;
     let mut dialer = Dialer::new(SystemConnector::new(&rt, listener.address()?));
     let Dialing::Origin(mut origin) = dialer.dial() else {
