@@ -167,6 +167,16 @@ fn fill_room(rt: &(impl AllocGlobal + Abort), buffer: &mut IoBuffer, length: usi
     buffer.produce(length);
 }
 
+// What a write leaves free of its block is lent; the next block that is lent has 4,096 bytes.
+#[test]
+fn what_a_write_leaves_free_is_lent(rt: HostRuntime) {
+    let mut buffer = IoBuffer::new(rt.alloc()).expect(&rt, MEMORY);
+    buffer.write(b"ab").expect(&rt, MEMORY);
+    fill_room(&rt, &mut buffer, 254);
+    fill_room(&rt, &mut buffer, 4_096);
+    fill_room(&rt, &mut buffer, 8_192);
+}
+
 // Rooms double from block to block, and begin anew once the memory of the blocks was given back. A buffer
 // that holds bytes keeps them.
 #[test]
