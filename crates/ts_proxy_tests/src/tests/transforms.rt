@@ -68,12 +68,12 @@ fn bodies(rt: HostRuntime) -> Result<(), Fail> {
             b"<a>",
         ),
         (
-            b"map.so > ]\nprepend.so <\nappend_transform.so >",
+            b"map.so > ]\nprepend.so <\nappend_transform.so >\nbnull_transform.so",
             b"a",
             b"<a>",
         ),
         (
-            b"prepend.so <\nappend_transform.so > # x\nmap.so > ]\r\n",
+            b"prepend.so <\nappend_transform.so > # x\nbnull_transform.so\nmap.so > ]\r\n",
             b"a",
             b"<a]",
         ),
