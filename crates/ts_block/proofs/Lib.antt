@@ -1,5 +1,6 @@
 pub mod OneBlock
 pub mod OneHead
+pub mod PlainRules
 pub mod Saying
 pub mod Searching
-pub mod Sites
+pub mod SentOnce

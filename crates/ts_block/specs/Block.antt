@@ -7,6 +7,7 @@ use Rattle.ts_config.specs.declared.fields.Side.TheVariants as S
 use Rattle.ts_config.specs.Bodies.{compose_lines}
 use Rattle.ts_hooks.specs.declared.txn_end.TxnEnd.{TxnEnd}
 use Rattle.ts_hooks.specs.declared.txn_end.TxnEnd.TheVariants as E
+use Rattle.ts_wire.specs.declared.fields.Field.{Field}
 use Rattle.ts_wire.specs.declared.heads.RequestHead.{RequestHead}
 use Rattle.ts_wire.specs.declared.heads.ResponseHead.{ResponseHead}
 use Rattle.ts_wire.specs.declared.framing.Framing.{Framing}
@@ -52,12 +53,15 @@ EndsWith framing bytes body =
 abbrev pub silent_block : Block
 silent_block = record { request = []; end = E.Whole; head = []; mode = M.Plain; body = [] }
 
+-- the head that the origin gets, with these fields
+abbrev pub request_with : RequestHead → List ℕ → List ℕ → List Field → List ℕ
+request_with q target host fields = origin_text q.method (is_absolute q.target) q.minor target host fields
+
 module _ (setup : Setup) where
   -- the head that the origin gets: the fields that are sent on, after the header rules of requests
   abbrev pub request_text : RequestHead → List ℕ → List ℕ → List ℕ
   request_text q target host =
-      let fields = ruled S.Request setup.plugins.items (forwarded q.fields) in
-      origin_text q.method (is_absolute q.target) q.minor target host fields
+      request_with q target host (ruled S.Request setup.plugins.items (forwarded q.fields))
 
   abbrev pub own_text : OwnStatus → List ℕ
   own_text status = own_head status (ruled S.Response setup.plugins.items (own_field ∷ []))
@@ -89,11 +93,13 @@ module _ (setup : Setup) where
   framing_for q h =
       client_framing (framing_of q h) h.status (length_told h.fields) (is_acted_on h) (reads_chunks q)
 
+  -- the client's head of a response that is passed on, with these fields
+  abbrev pub relayed_with : RequestHead → ResponseHead → List Field → List ℕ
+  relayed_with q h fields = client_text h.status h.reason fields (Some h.minor) (framing_for q h)
+
   -- the client's head: the fields that are sent on, after the header rules of responses
   abbrev pub relayed_head : RequestHead → ResponseHead → List ℕ
-  relayed_head q h =
-      let fields = ruled S.Response setup.plugins.items (forwarded h.fields) in
-      client_text h.status h.reason fields (Some h.minor) (framing_for q h)
+  relayed_head q h = relayed_with q h (ruled S.Response setup.plugins.items (forwarded h.fields))
 
   -- the block whose answer is the origin's
   abbrev pub relayed_block : List ℕ → RequestHead → ResponseHead → TxnEnd → List ℕ → Block

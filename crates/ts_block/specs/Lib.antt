@@ -6,3 +6,4 @@ pub mod Own
 pub mod Reading
 pub mod Relayed
 pub mod Rules
+pub mod Sent

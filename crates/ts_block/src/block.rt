@@ -5,8 +5,9 @@ ghost use Rattle.ts_config.specs.Bodies.{compose_lines};
 ghost use Rattle.ts_block.specs.Heads.{is_refused_status};
 ghost use Rattle.ts_block.specs.Relayed.{asks_head, framing_of, if_body};
 ghost use Rattle.ts_block.specs.Finding.{IsOver, IsCut};
-ghost use Rattle.ts_block.specs.Block.{IsGood, request_text, own_text, own_block, silent_block, lines_for};
-ghost use Rattle.ts_block.specs.Block.{body_lines, framing_for, relayed_head, relayed_block, BodySays};
+ghost use Rattle.ts_block.specs.Block.{IsGood, request_with, request_text, own_text, own_block};
+ghost use Rattle.ts_block.specs.Block.{silent_block, lines_for, body_lines, framing_for, relayed_with};
+ghost use Rattle.ts_block.specs.Block.{relayed_head, relayed_block, BodySays};
 ghost use Rattle.ts_block.specs.Block.{AnswerSays, DialSays, VerdictSays, IsBlock, HasOneBlock};
 
 use crate::bodies::compose;
@@ -22,8 +23,8 @@ use ts_config::{Setup, Side};
 use ts_hooks::TxnEnd;
 use ts_link::{NoMemory, Octets};
 use ts_wire::{
-    BodyState, ClientFraming, Framing, Mode, RequestHead, ResponseHead, Verdict, check_request,
-    client_head, forward_fields, origin_head, plugin_host,
+    BodyState, ClientFraming, Fields, Framing, Mode, RequestHead, ResponseHead, Verdict,
+    check_request, client_head, forward_fields, origin_head, plugin_host,
 };
 
 /// What a transaction makes of all bytes of both its links: the head that the origin gets, how it ends, and
@@ -39,7 +40,20 @@ pub struct Block {
     pub body: Octets,
 }
 
-/// The head that the origin gets.
+/// The head that the origin gets, with these fields.
+pub fn request_with(
+    alloc: Global,
+    head: &RequestHead,
+    target: &Octets,
+    host: &Octets,
+    fields: &Fields,
+) -> Result<Octets, NoMemory>
+    ensures { IfOk result (λ text. text ≡ request_with head.now target.now host.now fields.now) }
+{
+    origin_head(alloc, head, target.bytes(), host.bytes(), fields)
+}
+
+/// The head that the origin gets, after the header rules of requests.
 pub fn request_text(
     alloc: Global,
     setup: &Setup,
@@ -51,7 +65,7 @@ pub fn request_text(
 {
     let kept = forward_fields(alloc, &head.fields)?;
     let fields = apply_rules(Side::Request, setup.plugins.as_slice(), kept)?;
-    origin_head(alloc, head, target.bytes(), host.bytes(), &fields)
+    request_with(alloc, head, target, host, &fields)
 }
 
 /// The head of an answer of the proxy's own, after the header rules of responses.
@@ -120,7 +134,29 @@ pub fn framing_for(setup: &Setup, request: &RequestHead, head: &ResponseHead) ->
     )
 }
 
-/// The head that the client gets of a response that is passed on.
+/// The head that the client gets of a response that is passed on, with these fields.
+pub fn relayed_with(
+    alloc: Global,
+    setup: &Setup,
+    request: &RequestHead,
+    head: &ResponseHead,
+    fields: &Fields,
+) -> Result<Octets, NoMemory>
+    ensures { IfOk result (λ text. text ≡ relayed_with setup.now request.now head.now fields.now) }
+{
+    let framing = framing_for(setup, request, head);
+    let reason = head.reason.bytes();
+    client_head(
+        alloc,
+        head.status,
+        reason,
+        fields,
+        Some(head.minor),
+        framing,
+    )
+}
+
+/// The head that the client gets of a response that is passed on, after the header rules of responses.
 pub fn relayed_head(
     alloc: Global,
     setup: &Setup,
@@ -131,16 +167,7 @@ pub fn relayed_head(
 {
     let kept = forward_fields(alloc, &head.fields)?;
     let fields = apply_rules(Side::Response, setup.plugins.as_slice(), kept)?;
-    let framing = framing_for(setup, request, head);
-    let reason = head.reason.bytes();
-    client_head(
-        alloc,
-        head.status,
-        reason,
-        &fields,
-        Some(head.minor),
-        framing,
-    )
+    relayed_with(alloc, setup, request, head, &fields)
 }
 
 /// What the lines make of a body: nothing of one that is not there.
@@ -395,7 +422,7 @@ fn passed(
         (Ok (target.now, host.now)) asked.now) }
 {
     let name = plugin_host(alloc, host.bytes())?;
-    if is_denied(setup.plugins.as_slice(), name.bytes())? {
+    if is_denied(setup.plugins.as_slice(), name.bytes()) {
         let status = OwnStatus::Forbidden;
         let block = own_block(alloc, setup, nothing(alloc), status, asks_head(asked))?;
         return Ok(block);

@@ -79,7 +79,7 @@ impl OwnStatus {
     }
 
     /// The head of the answer, with these fields.
-    pub(crate) fn head(self, alloc: Global, fields: &Fields) -> Result<Octets, NoMemory>
+    pub fn head(self, alloc: Global, fields: &Fields) -> Result<Octets, NoMemory>
         ensures { IfOk result (λ text. text ≡ own_head self fields.now) }
     {
         let framing = ClientFraming::Sized(self.body().len() as u64);
@@ -88,7 +88,7 @@ impl OwnStatus {
 }
 
 /// The fields of such an answer, before the header rules.
-pub(crate) fn own_fields(alloc: Global) -> Result<Fields, NoMemory>
+pub fn own_fields(alloc: Global) -> Result<Fields, NoMemory>
     ensures { IfOk result (λ fields. fields ≡ own_field ∷ []) }
 {
     let name = HeaderName::from_static("content-type");

@@ -1,6 +1,5 @@
 //! What the hook plugin lines of a configuration do: deny lists refuse hosts, header rules change fields.
-ghost use Rattle.std.specs.Prelude.{◌≡◌, drop, IfOk};
-ghost use Rattle.std.specs.List.{list_any};
+ghost use Rattle.std.specs.Prelude.{◌≡◌, IfOk};
 ghost use Rattle.std.specs.Str.{str_eq_ignore_ascii_case};
 ghost use Rattle.ts_block.specs.Rules.{apply_rule, after_line, ruled, is_side, is_site, denies, is_denied};
 
@@ -86,44 +85,35 @@ fn is_same_site(site: &[u8], host: &[u8]) -> bool
 }
 
 /// Whether the host is one of the sites but for letter case.
-pub fn is_site(sites: &Sites, host: &[u8]) -> Result<bool, NoMemory>
-    ensures { IfOk result (λ is. is ≡ is_site host.now sites.now) }
+pub fn is_site(sites: &Sites, host: &[u8]) -> bool
+    ensures { result ≡ is_site host.now sites.now }
 {
-    let mut k: usize = 0;
-    while let Some(site) = sites.site(k) {
-        if is_same_site(site, host) {
-            return Ok(true);
+    let listed = sites.sites();
+    for site in listed {
+        if is_same_site(site.bytes(), host) {
+            return true;
         }
-        // No list in memory has more sites than a `usize` counts.
-        let Some(next) = k.checked_add(1) else {
-            return Err(NoMemory);
-        };
-        k = next;
     }
-    Ok(false)
+    false
 }
 
-fn denies(line: &PluginLine, host: &[u8]) -> Result<bool, NoMemory>
-    ensures { IfOk result (λ does. does ≡ denies host.now line.now) }
+fn denies(line: &PluginLine, host: &[u8]) -> bool
+    ensures { result ≡ denies host.now line.now }
 {
     match line {
         PluginLine::Deny { sites } => is_site(sites, host),
-        PluginLine::Header { .. } => Ok(false),
+        PluginLine::Header { .. } => false,
     }
 }
 
 /// Whether some deny line denies the host, which is in the form that plugins see.
-pub fn is_denied(lines: &[PluginLine], host: &[u8]) -> Result<bool, NoMemory>
-    ensures { IfOk result (λ is. is ≡ is_denied lines.now host.now) }
+pub fn is_denied(lines: &[PluginLine], host: &[u8]) -> bool
+    ensures { result ≡ is_denied lines.now host.now }
 {
-    match lines {
-        [] => Ok(false),
-        [line, rest @ ..] => {
-            if denies(line, host)? {
-                Ok(true)
-            } else {
-                is_denied(rest, host)
-            }
+    for line in lines {
+        if denies(line, host) {
+            return true;
         }
     }
+    false
 }
