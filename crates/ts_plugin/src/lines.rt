@@ -1,11 +1,13 @@
-//! The hook at which the plugin of a line stands, and the lines of a hook.
+//! The hook at which the plugin of a line stands, and the table of the plugins of some lines.
 
-ghost use Rattle.std.specs.Prelude.{◌≡◌};
+ghost use Rattle.std.specs.Prelude.{◌≡◌, ◌+◌, ◌≤◌, length, IfOk};
 ghost use Rattle.ts_plugin.specs.Replies.{hook_of_side, hook_of};
-ghost use Rattle.ts_plugin.specs.Lines.{FindsLine};
+ghost use Rattle.ts_plugin.specs.Lines.{table_of};
 
+use std::alloc::Global;
 use ts_config::{PluginLine, Side};
-use ts_hooks::Hook;
+use ts_hooks::{Hook, HookTable};
+use ts_link::NoMemory;
 
 /// The hook at which the head of a side is about to be sent.
 pub fn hook_of_side(side: Side) -> Hook
@@ -27,18 +29,17 @@ pub fn hook_of(line: &PluginLine) -> Hook
     }
 }
 
-/// The place of the first line from a place on whose plugin stands at the hook. Places are counted from 0
-/// among all lines.
-#[tactic(auto, using(crate::proofs::HookLines::passed_line, crate::proofs::HookLines::none_left))]
-pub fn next_line(lines: &[PluginLine], hook: Hook, from: usize) -> Option<usize>
-    ensures { FindsLine hook lines.now from result }
+/// The table of the plugins that each transaction asks at its hooks: the plugin of each line at its hook, by
+/// the number of its group. The first line's plugin has the group `first`, and each line's the next.
+pub fn table_of(alloc: Global, lines: &[PluginLine], first: u32) -> Result<HookTable, NoMemory>
+    requires { first + length lines.now ≤ u32.MAX }
+    ensures { IfOk result (λ table. table ≡ table_of first lines.now) }
 {
-    let mut place = from;
-    while let Some(line) = lines.get(place) {
-        if hook_of(line).is_same(hook) {
-            return Some(place);
-        }
-        place += 1;
+    let mut table = HookTable::new(alloc)?;
+    let mut group = first;
+    for line in lines {
+        table.add_global(hook_of(line), group)?;
+        group += 1;
     }
-    None
+    Ok(table)
 }

@@ -3,7 +3,7 @@
 ghost use Rattle.std.specs.Prelude.{⊤, ◌≡◌, true, false, [], Some, length, refl, IfOk};
 ghost use Rattle.ts_group.specs.Entries.{Grows};
 ghost use Rattle.ts_plugin.specs.Replies.{IsReplyOf};
-ghost use Rattle.ts_plugin.specs.World.{OnlyAnswers, IsPluginOf};
+ghost use Rattle.ts_plugin.specs.World.{OnlyAnswers, IsPluginOf, own_lives};
 
 use crate::copying::copy_line;
 use crate::question::{HookQuestion, HookReply};
@@ -15,7 +15,7 @@ use ts_group::{Asked, Cx, Want, World};
 use ts_journal::{Event, Slotted};
 use ts_link::NoMemory;
 
-/// The plugin of a line. It is asked, sets no event and asks nobody.
+/// The plugin of a line. It is asked, sets no event, makes no continuation and asks nobody.
 #[derive(Drop)]
 pub struct Plugin {
     alloc: Global,
@@ -87,7 +87,14 @@ impl World for Plugin {
 
     ghost heard = { λ old new asked. new ≡ old };
 
-    fn start(&mut self, _cx: &mut Cx) {}
+    fn start(&mut self, cx: &mut Cx)
+        requires turn { cx.old.log.state.held ≡ true }
+        requires sound { OnlyAnswers cx.old.log.state }
+        ensures grows { Grows cx.old cx.new }
+        ensures same { (cx.new.log.state ≡ cx.old.log.state) × (self.new ≡ self.old) }
+    {
+        let _ = cx;
+    }
 
     fn handle(&mut self, _role: u32, _event: Event, _cx: &mut Cx) -> Want<HookQuestion> {
         Want::Nothing
@@ -104,13 +111,13 @@ impl World for Plugin {
         reply_of(self.alloc, &self.line, question)
     }
 
-    ghost sound_taken = { λ p s turn seat roles h. record { own = h.own; plain = h.plain } };
+    ghost sound_taken = { λ p s turn seat roles h. record { only = h.only; plain = h.plain } };
 
-    ghost sound_given = { λ p s turn roles h. record { own = h.own; plain = h.plain } };
+    ghost sound_given = { λ p s turn roles h. record { only = h.only; plain = h.plain } };
 
     ghost left_taken = { λ p s turn seat. refl };
 
     ghost left_given = { λ p s turn. refl };
 
-    ghost rests = { λ tag p s roles f h. h.own };
+    ghost rests = { λ tag p s roles f h. own_lives s h };
 }

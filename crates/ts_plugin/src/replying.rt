@@ -1,6 +1,6 @@
 //! What the plugin of a line replies to a question.
 
-ghost use Rattle.std.specs.Prelude.{◌≡◌, ◌&&◌, if◌then◌else◌, IfOk};
+ghost use Rattle.std.specs.Prelude.{◌≡◌, ◌&&◌, if◌then◌else◌};
 ghost use Rattle.ts_config.specs.declared.fields.PluginLine.TheVariants as PluginLine;
 ghost use Rattle.ts_hooks.specs.declared.hook.Hook.TheVariants as Hook;
 ghost use Rattle.ts_hooks.specs.declared.hook.HookAnswer.TheVariants as HookAnswer;
@@ -17,18 +17,14 @@ use ts_hooks::{Hook, HookAnswer};
 use ts_wire::Fields;
 
 // What a deny list answers at a hook, for a host.
-fn judge(sites: &Sites, hook: Hook, host: &[u8]) -> Result<HookAnswer, PluginFault>
-    ensures { IfOk result (λ answer. answer
-        ≡ (if is_same hook Hook.OsDns && is_site host.now sites.now
-        then HookAnswer.Error else HookAnswer.Continue)) }
+fn judge(sites: &Sites, hook: Hook, host: &[u8]) -> HookAnswer
+    ensures { result ≡ (if is_same hook Hook.OsDns && is_site host.now sites.now
+        then HookAnswer.Error else HookAnswer.Continue) }
 {
-    if !hook.is_same(Hook::OsDns) {
-        return Ok(HookAnswer::Continue);
-    }
-    match is_site(sites, host) {
-        Ok(true) => Ok(HookAnswer::Error),
-        Ok(false) => Ok(HookAnswer::Continue),
-        Err(_) => Err(PluginFault::NoMemory),
+    if hook.is_same(Hook::OsDns) && is_site(sites, host) {
+        HookAnswer::Error
+    } else {
+        HookAnswer::Continue
     }
 }
 
@@ -37,7 +33,7 @@ fn deny(sites: &Sites, question: HookQuestion) -> HookReply
     ensures { IsReplyOf (PluginLine.Deny sites.now) question result }
 {
     let HookQuestion { hook, host, fields } = question;
-    let answer = judge(sites, hook, host.bytes());
+    let answer = Ok(judge(sites, hook, host.bytes()));
     HookReply { answer, fields }
 }
 
