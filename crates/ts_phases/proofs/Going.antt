@@ -2,6 +2,8 @@
 use Rattle.std.proofs.Common.{◌≡◌, ℕ, List, [], ◌++◌, Bool, true, false, Result, refl, sym, ap, subst, ◌∙◌}
 use Rattle.std.proofs.lemmas.List.{append-nil}
 use Rattle.ts_config.specs.declared.setup.Setup.{Setup}
+use Rattle.ts_config.specs.declared.fields.PluginLine.{PluginLine}
+use Rattle.ts_hooks.specs.declared.hook.Hook.TheVariants as hook
 use Rattle.ts_hooks.specs.declared.txn_end.TxnEnd.TheVariants as E
 use Rattle.ts_link.specs.Link.{all_of}
 use Rattle.ts_vconn.specs.declared.moves.Pushed.{Pushed}
@@ -12,10 +14,12 @@ use Rattle.ts_block.specs.Rules.{is_denied}
 use Rattle.ts_block.specs.Heads.{LacksFinal}
 use Rattle.ts_block.specs.Relayed.{asks_head}
 use Rattle.ts_block.specs.Block.{DenySays, DialSays, IsBlock, VerdictSays, asked, own_block, request_text}
+use Rattle.ts_plugin.specs.Lines.{lines_left}
+use Rattle.ts_phases.specs.Asking.{denial_of}
 use Rattle.ts_phases.specs.View.{HasFailed, LinkSide, View}
 use Rattle.ts_phases.specs.Moving.{QueuesRequest, SideWrites, WritesOrigin}
-use Rattle.ts_phases.specs.Facts.{IsAllowed, CarriesRequest, PassesCheck, Goes, IsUnanswered, Knows, OwnReady}
-use Rattle.ts_phases.specs.Facts.{SendingRequest, Uploading, fault}
+use Rattle.ts_phases.specs.Facts.{IsAllowed, CarriesRequest, PassesCheck, PassesDeny, Goes, Knows}
+use Rattle.ts_phases.specs.Facts.{IsUnanswered, OwnReady, SendingRequest, Uploading, fault}
 use Rattle.ts_phases.specs.Facts as facts
 use Rattle.ts_phases.specs.Ends.{AnyEnd}
 use Rattle.ts_phases.specs.Ends as ends
@@ -69,45 +73,47 @@ module _ (setup : Setup) (dialed : Bool) (refuses : Type 0) (o c : List ℕ) (q 
 
 -- ---- denied, without an origin, or on to it
 
-pub denied : (setup : Setup) (refuses : Type 0) (v : View) (q : Request) (a : OwnAnswer) (is : Bool)
-    → PassesCheck v q → is ≡ is_denied setup.plugins.items (plugin_host q.host) → is ≡ true
-    → a ≡ record { status = O.Forbidden; to_head = asks_head q.head; end = E.Whole }
-    → OwnReady setup refuses v a
-denied setup refuses v q a is h says so same =
-    subst (λ (x : OwnAnswer). OwnReady setup refuses v x) (sym same)
-    (untouched_own setup refuses v (record {
-      status = O.Forbidden;
-      to_head = asks_head q.head;
-      end =
-          E.Whole;
-    }) h.waits h.untouched refl
-    (denied_block setup v.dialed refuses (all_of v.origin.look) (all_of v.client.look) q
-    (own_block setup [] O.Forbidden (asks_head q.head)) h.knows (sym says ∙ so) refl))
+-- where no plugin is left at OS_DNS, no line denies the host
+let_pass : (setup : Setup) (v : View) (q : Request) (place : ℕ) → PassesDeny setup v q place
+    → lines_left hook.OsDns place setup.plugins.items ≡ []
+    → is_denied setup.plugins.items (plugin_host q.host) ≡ false
+let_pass setup v q place h none =
+    h.still ∙ ap (λ (ls : List PluginLine). is_denied ls (plugin_host q.host)) none
 
-pub not_dialed : (setup : Setup) (refuses : Type 0) (v : View) (q : Request) (a : OwnAnswer) (is : Bool)
-    → PassesCheck v q → is ≡ is_denied setup.plugins.items (plugin_host q.host) → is ≡ false
+pub denied : (setup : Setup) (refuses : Type 0) (v : View) (q : Request) → PassesCheck v q
+    → is_denied setup.plugins.items (plugin_host q.host) ≡ true → OwnReady setup refuses v (denial_of q)
+denied setup refuses v q h so =
+    untouched_own setup refuses v (denial_of q) h.waits h.untouched refl
+    (denied_block setup v.dialed refuses (all_of v.origin.look) (all_of v.client.look) q
+    (own_block setup [] O.Forbidden (asks_head q.head)) h.knows so refl)
+
+pub not_dialed : (setup : Setup) (refuses : Type 0) (v : View) (q : Request) (place : ℕ) (a : OwnAnswer)
+    → PassesDeny setup v q place → lines_left hook.OsDns place setup.plugins.items ≡ []
     → v.dialed ≡ false → a ≡ record { status = O.BadGateway; to_head = asks_head q.head; end = E.Whole }
     → OwnReady setup refuses v a
-not_dialed setup refuses v q a is h says allowed none same =
+not_dialed setup refuses v q place a h none alone same =
     subst (λ (x : OwnAnswer). OwnReady setup refuses v x) (sym same)
     (untouched_own setup refuses v (record {
       status = O.BadGateway;
       to_head = asks_head q.head;
       end =
           E.Whole;
-    }) h.waits h.untouched refl
+    }) h.checked.waits h.checked.untouched refl
     (no_origin_block setup v.dialed refuses (all_of v.origin.look) (all_of v.client.look) q
-    (own_block setup [] O.BadGateway (asks_head q.head)) h.knows (sym says ∙ allowed) none refl))
+    (own_block setup [] O.BadGateway (asks_head q.head)) h.checked.knows (let_pass setup v q place h none)
+    alone refl))
 
-pub allowed : (setup : Setup) (v : View) (q : Request) (is : Bool) → PassesCheck v q
-    → is ≡ is_denied setup.plugins.items (plugin_host q.host) → is ≡ false
-    → v.dialed ≡ true → IsAllowed setup v q
-allowed setup v q is h says free dialed =
+pub allowed : (setup : Setup) (v : View) (q : Request) (place : ℕ) → PassesDeny setup v q place
+    → lines_left hook.OsDns place setup.plugins.items ≡ [] → v.dialed ≡ true → IsAllowed setup v q
+allowed setup v q place h none dialed =
     record {
-      waits = h.waits;
-      untouched = h.untouched;
-      goes =
-          record { knows = h.knows; allowed = sym says ∙ free; has_origin = dialed };
+      waits = h.checked.waits;
+      untouched = h.checked.untouched;
+      goes = record {
+        knows = h.checked.knows;
+        allowed = let_pass setup v q place h none;
+        has_origin = dialed;
+      };
     }
 
 pub checked_any : (setup : Setup) (refuses : Type 0) (v : View) (q : Request) → PassesCheck v q

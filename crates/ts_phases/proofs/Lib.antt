@@ -1,6 +1,9 @@
 pub mod Always
 pub mod Asks
+pub mod Causes
 pub mod Going
+pub mod Hearing
+pub mod Leading
 pub mod Leaving
 pub mod Lowering
 pub mod LoweringAnswers

@@ -9,6 +9,7 @@ use Rattle.ts_vconn.specs.declared.moves.Pushed.{Pushed}
 use Rattle.ts_vconn.specs.declared.moves.Pushed.TheVariants as V
 use Rattle.ts_vconn.specs.MoveAnswers.{pull_again, push_again}
 use Rattle.ts_wire.specs.Check.{check}
+use Rattle.ts_wire.specs.declared.fields.Field.{Field}
 use Rattle.ts_wire.specs.declared.heads.RequestHead.{RequestHead}
 use Rattle.ts_wire.specs.declared.heads.ResponseHead.{ResponseHead}
 use Rattle.ts_block.specs.Block.{own_text, request_text}
@@ -253,22 +254,24 @@ module _ (ct ot : Bool) (setup : Setup) (v w : View) (u u' : Option ℕ)
 
   -- ---- what is queued
 
-  pub queues_request : (q : Request) (text : List ℕ) → QueuesRequest text v w
-      → text ≡ request_text setup q.head q.target q.host
-      → IfTold ct ot (StepLowers setup (P.SendRequestHdr q) u u' v w
+  pub queues_request : (q : Request) (place : ℕ) (fields : List Field) (text : List ℕ)
+      → QueuesRequest text v w → (ct ≡ true → ot ≡ true → text ≡ request_text setup q.head q.target q.host)
+      → IfTold ct ot (StepLowers setup (P.RuleRequest q place fields) u u' v w
       (record { phase = P.SendRequest q; next = N.Go }))
-  queues_request q text queues is told also =
-      queued setup v w u u' q (rose_none v w u u' (ap (λ (x : View). x.origin.look.taken) queues) rose)
-      (subst (λ (xs : List ℕ). QueuesRequest xs v w) is queues)
+  queues_request q place fields text queues is told also =
+      queued setup v w u u' q place fields
+      (rose_none v w u u' (ap (λ (x : View). x.origin.look.taken) queues) rose)
+      (subst (λ (xs : List ℕ). QueuesRequest xs v w) (is told also) queues)
 
-  pub queues_own : (a : OwnAnswer) (head body : List ℕ) → QueuesOwn head body v w
-      → head ≡ own_text setup a.status → body ≡ own_sent a.to_head a.status
-      → IfTold ct ot (StepLowers setup (P.SendResponseHdr a) u u' v w
+  pub queues_own : (a : OwnAnswer) (place : ℕ) (fields : List Field) (head body : List ℕ)
+      → QueuesOwn head body v w
+      → (ct ≡ true → ot ≡ true → head ≡ own_text setup a.status) → body ≡ own_sent a.to_head a.status
+      → IfTold ct ot (StepLowers setup (P.RuleAnswer a place fields) u u' v w
       (record { phase = P.Sending a; next = N.Go }))
-  queues_own a head body queues head_is body_is told also =
-      own_text_queued setup v w u u' a (rose_none v w u u' (ap (λ (s : LinkSide). s.look.taken) queues.origin)
-      rose)
-      (subst (λ (xs : List ℕ). QueuesOwn xs (own_sent a.to_head a.status) v w) head_is
+  queues_own a place fields head body queues head_is body_is told also =
+      own_text_queued setup v w u u' a place fields
+      (rose_none v w u u' (ap (λ (s : LinkSide). s.look.taken) queues.origin) rose)
+      (subst (λ (xs : List ℕ). QueuesOwn xs (own_sent a.to_head a.status) v w) (head_is told also)
       (subst (λ (xs : List ℕ). QueuesOwn head xs v w) body_is queues))
 
   -- ---- nothing moved

@@ -1,10 +1,10 @@
 -- No head of a request that is sent is longer than its room.
 use Rattle.std.proofs.Common.{◌≡◌, ℕ, ◌+◌, ◌*◌, ◌≤◌, Bool, true, false, cond, List, [], ◌∷◌, ◌++◌, map}
-use Rattle.std.proofs.Common.{filter, length, reverse, take, drop, Result, Ok, Err, refl, sym, ap, subst}
+use Rattle.std.proofs.Common.{filter, length, take, drop, Ok, refl, sym, ap, subst}
 use Rattle.std.proofs.Common.{arith, length-append}
 use Rattle.std.specs.Prelude.{Option, Some, None, ◌==◌, ◌&&◌, ◌||◌, not, codes, find, flat_map, bytes_eq}
 use Rattle.std.specs.List.{list_any, position_or_len}
-use Rattle.std.proofs.lemmas.List.{length-drop, length-map, length-reverse, length-take}
+use Rattle.std.proofs.lemmas.List.{length-drop, length-map, length-take}
 use Rattle.httparse.specs.Ascii.{crlf_bytes}
 use Rattle.httparse.specs.Grammar as grammar
 use Rattle.httparse.specs.Grammar.{is_ows, print_blank, print_end, print_field, print_request, print_section}
@@ -19,18 +19,16 @@ use Rattle.ts_config.specs.declared.fields.PluginLine.TheVariants.{Deny, Header}
 use Rattle.ts_wire.specs.declared.fields.Field.{Field}
 use Rattle.ts_wire.specs.declared.heads.RequestHead.{RequestHead}
 use Rattle.ts_wire.specs.Check.{absolute_parts, after_authority, authority, begins_with_slash, check}
-use Rattle.ts_wire.specs.Check.{ends_authority, has_wrong_hosts, host_named, is_absolute, is_at_sign}
-use Rattle.ts_wire.specs.Check.{question_mark, refusal_by, sent_after, slash, target_parts, unless_refused}
-use Rattle.ts_wire.specs.Check.{with_parts}
-use Rattle.ts_wire.specs.FieldList.{count_named, is_named, value_or_empty}
+use Rattle.ts_wire.specs.Check.{ends_authority, host_named, is_absolute, is_at_sign}
+use Rattle.ts_wire.specs.Check.{question_mark, sent_after, slash}
+use Rattle.ts_wire.specs.FieldList.{is_named, value_or_empty}
 use Rattle.ts_wire.specs.Forward.{forwarded, is_forwarded}
-use Rattle.ts_wire.specs.Framing.{coding_named, length_named}
 use Rattle.ts_wire.specs.Heads.{kept_field}
 use Rattle.ts_wire.specs.Limits.{field_limit, head_limit, scheme_len}
 use Rattle.ts_wire.specs.Printed.{field_text, fields_text, host_text, missing_host_text, request_field_text}
 use Rattle.ts_wire.specs.Printed.{via_text}
 use Rattle.ts_wire.proofs.CheckedRequest.{Parts, passed, some_parts}
-use Rattle.ts_wire.proofs.Sizes.{length-forwarded_request, skip_shorter, trim_shorter}
+use Rattle.ts_wire.proofs.Sizes.{length-forwarded_request, trim_shorter}
 use Rattle.ts_block.specs.Block.{request_text}
 use Rattle.ts_block.specs.Heads.{HasRequest}
 use Rattle.ts_block.specs.Rules.{after_line, apply_rule, is_side, ruled, without_name}

@@ -1,5 +1,5 @@
 -- The steps at which nothing moves lower what is left to do.
-use Rattle.std.proofs.Common.{ℕ, Bool, false, ◌≡◌, refl, subst, sym}
+use Rattle.std.proofs.Common.{ℕ, Bool, false, refl}
 use Rattle.std.specs.Prelude.{Option}
 use Rattle.ts_config.specs.declared.setup.Setup.{Setup}
 use Rattle.ts_hooks.specs.declared.txn_end.TxnEnd.{TxnEnd}
@@ -12,7 +12,6 @@ use Rattle.ts_phases.specs.declared.phase.OwnAnswer.{OwnAnswer}
 use Rattle.ts_phases.specs.declared.phase.Phase.{Phase}
 use Rattle.ts_phases.specs.declared.phase.Phase.TheVariants as P
 use Rattle.ts_phases.specs.declared.phase.Request.{Request}
-use Rattle.ts_phases.specs.declared.phase.Step.{Step}
 use Rattle.ts_phases.proofs.Lowering.{none_rise}
 use Rattle.ts_phases.proofs.LoweringSteps.{begins, request_goes, request_read, response_passed, started}
 use Rattle.ts_phases.proofs.LoweringSteps.{stays_calm, to_end, to_own}
@@ -22,14 +21,14 @@ module _ (ct ot : Bool) (setup : Setup) (v : View) (u : Option ℕ) where
       (record { phase = P.Ended end; next = N.Done }))
   still_end p end told also = to_end setup false 0 v v u u (stays_calm setup v v refl) (none_rise u) p end
 
-  pub denied_lowers : (q : Request) (a : OwnAnswer) → IfTold ct ot
-      (StepLowers setup (P.OsDns q) u u v v (record { phase = P.SendResponseHdr a; next = N.Go }))
-  denied_lowers q a told also = to_own setup false 0 v v u u (stays_calm setup v v refl) (none_rise u)
-      (P.OsDns q) a tt
+  pub own_lowers : (q : Request) (place : ℕ) (a : OwnAnswer) → IfTold ct ot
+      (StepLowers setup (P.OsDns q place) u u v v (record { phase = P.SendResponseHdr a; next = N.Go }))
+  own_lowers q place a told also = to_own setup false 0 v v u u (stays_calm setup v v refl) (none_rise u)
+      (P.OsDns q place) a tt
 
-  pub allowed_lowers : (q : Request) → IfTold ct ot (StepLowers setup (P.OsDns q) u u v v
+  pub allowed_lowers : (q : Request) (place : ℕ) → IfTold ct ot (StepLowers setup (P.OsDns q place) u u v v
       (record { phase = P.SendRequestHdr q; next = N.Go }))
-  allowed_lowers q told also = request_goes setup v u q
+  allowed_lowers q place told also = request_goes setup v u q place
 
   pub fresh_lowers : IfTold ct ot (StepLowers setup P.Fresh u u v v
       (record { phase = P.TxnStart; next = N.Go }))
@@ -40,7 +39,7 @@ module _ (ct ot : Bool) (setup : Setup) (v : View) (u : Option ℕ) where
   start_lowers told also = started setup v u
 
   pub checked_lowers : (q : Request) → IfTold ct ot (StepLowers setup (P.ReadRequestHdr q) u u v v
-      (record { phase = P.OsDns q; next = N.Go }))
+      (record { phase = P.OsDns q 0; next = N.Go }))
   checked_lowers q told also = request_read setup v u q
 
   pub heard_lowers : (q : Request) (h : ResponseHead) → IfTold ct ot
@@ -48,10 +47,3 @@ module _ (ct ot : Bool) (setup : Setup) (v : View) (u : Option ℕ) where
       { phase = P.ResponseTransform q h; next = N.Go }))
   heard_lowers q h told also = response_passed setup false 0 v v u u (stays_calm setup v v refl) (none_rise u)
       q h
-
--- the same of a phase that is known by an equation
-pub lowers_at : (ct ot : Bool) (setup : Setup) (v w : View) (u u' : Option ℕ) (q : Phase) (s : Step)
-    {p : Phase} → p ≡ q
-    → IfTold ct ot (StepLowers setup q u u' v w s) → IfTold ct ot (StepLowers setup p u u' v w s)
-lowers_at ct ot setup v w u u' q s {p} is lowers =
-    subst (λ (x : Phase). IfTold ct ot (StepLowers setup x u u' v w s)) (sym is) lowers

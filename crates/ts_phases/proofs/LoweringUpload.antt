@@ -2,13 +2,15 @@
 use Rattle.std.proofs.Common.{ℕ, ◌+◌, ◌*◌, ◌<◌, ◌≤◌, List, length, Bool, true, arith, refl, ap}
 use Rattle.std.specs.Prelude.{Option, Some, None}
 use Rattle.ts_config.specs.declared.setup.Setup.{Setup}
+use Rattle.ts_hooks.specs.declared.hook.Hook.TheVariants as hook
 use Rattle.ts_link.specs.Link.{AgainsFall, Fewer, NoMore}
 use Rattle.ts_upstream.specs.declared.upstream.Uploaded.{Uploaded}
 use Rattle.ts_upstream.specs.declared.upstream.Uploaded.TheVariants as U
 use Rattle.ts_upstream.specs.Uploads.{Rose8, UploadFalls}
 use Rattle.ts_phases.specs.View.{LinkSide, View}
 use Rattle.ts_phases.specs.Moving.{LowersUpload, MovesUpload}
-use Rattle.ts_phases.specs.Lowering.{agains_left, answer_room, if_told, phase_work, to_hear, work_left}
+use Rattle.ts_phases.specs.Lowering.{agains_left, answer_room, asks_at, if_told, phase_work, to_hear}
+use Rattle.ts_phases.specs.Lowering.{work_left}
 use Rattle.ts_phases.specs.declared.phase.Phase.TheVariants as P
 use Rattle.ts_phases.specs.declared.phase.Request.{Request}
 use Rattle.ts_phases.proofs.Lowering.{one_if, replaced_within, same_length, still_hear}
@@ -28,15 +30,15 @@ not_risen None n' kept = tt
 not_risen (Some y) None kept = absurd kept
 not_risen (Some y) (Some y') kept = omega (arith, kept)
 
-more_next : (x x' out out' room hear hear' y y' : ℕ) → x' ≤ x → y' < y → out' ≤ out → hear' ≤ hear
-    → 9 + (x' + out' + room + hear') + y' < 9 + (x + out + room + hear) + y
-more_next x x' out out' room hear hear' y y' again upload less heard =
+more_next : (r x x' out out' room hear hear' y y' : ℕ) → x' ≤ x → y' < y → out' ≤ out → hear' ≤ hear
+    → r + (x' + out' + room + hear') + y' < r + (x + out + room + hear) + y
+more_next r x x' out out' room hear hear' y y' again upload less heard =
     omega (arith, again, upload, less, heard)
 
-again_next : (x x' out out' room hear hear' y y' : ℕ) → x' + one_if true ≤ x → y' ≤ y + 8 * 0 → out' ≤ out
+again_next : (r x x' out out' room hear hear' y y' : ℕ) → x' + one_if true ≤ x → y' ≤ y + 8 * 0 → out' ≤ out
     → hear' ≤ hear
-    → 9 + (x' + out' + room + hear') + y' < 9 + (x + out + room + hear) + y
-again_next x x' out out' room hear hear' y y' again upload less heard =
+    → r + (x' + out' + room + hear') + y' < r + (x + out + room + hear) + y
+again_next r x x' out out' room hear hear' y y' again upload less heard =
     omega (arith, again, upload, less, heard)
 
 module _ (setup : Setup) (refuses : List ℕ → Type 0) (v w : View) (answer : Uploaded)
@@ -59,7 +61,8 @@ module _ (setup : Setup) (refuses : List ℕ → Type 0) (v w : View) (u u' : Op
       → Fewer (work_left setup u v (P.Upload q)) (work_left setup u' w (P.Upload q))
   uploads_more moves lowers = told_lower (λ x y. phase_work setup x y v (P.Upload q))
       (λ x y. phase_work setup x y w (P.Upload q)) (agains_left v) (agains_left w) u u' lowers.1 lowers.0
-      (λ x x' y y' again upload. more_next x x' (length v.client.outbox) (length w.client.outbox)
+      (λ x x' y y' again upload. more_next (10 + asks_at setup hook.SendResponseHdr) x x'
+      (length v.client.outbox) (length w.client.outbox)
       (answer_room setup) (to_hear setup v.origin) (to_hear setup w.origin) y y' again upload
       (upload_out setup refuses v w U.More moves) (upload_hear setup refuses v w U.More moves))
 
@@ -69,7 +72,8 @@ module _ (setup : Setup) (refuses : List ℕ → Type 0) (v w : View) (u u' : Op
       let calm = upload_calm setup refuses v w U.Again moves true lowers.1 in
       work_falls setup true 0 v w u u' calm (not_risen u u' lowers.0) (P.Upload q) (P.Upload q)
       (not_risen u u' lowers.0) (λ x x' y y' again upload.
-      again_next x x' (length v.client.outbox) (length w.client.outbox) (answer_room setup)
+      again_next (10 + asks_at setup hook.SendResponseHdr) x x' (length v.client.outbox)
+      (length w.client.outbox) (answer_room setup)
       (to_hear setup v.origin) (to_hear setup w.origin) y y' again upload calm.out calm.hear)
 
 -- want of memory without an origin leaves what is left

@@ -1,6 +1,8 @@
 -- What a step owes beside its facts, by the call that it made: a look for a head, a write, a text that was
 -- queued, or none.
 use Rattle.std.proofs.Common.{◌≡◌, List, ℕ, Bool, false, ap, inl, inr, refl, sym, subst}
+use Rattle.std.specs.Arc.{arc_value}
+use Rattle.ts_config.specs.declared.fields.PluginLine.{PluginLine}
 use Rattle.ts_hooks.specs.declared.txn_end.TxnEnd.TheVariants as E
 use Rattle.ts_link.specs.declared.link.Link as link
 use Rattle.ts_upstream.specs.declared.upstream.Upstream as upstream
@@ -10,10 +12,12 @@ use Rattle.ts_vconn.specs.declared.moves.Pulled.{Pulled}
 use Rattle.ts_vconn.specs.declared.moves.Pulled.TheVariants as L
 use Rattle.ts_vconn.specs.declared.moves.Pushed.{Pushed}
 use Rattle.ts_vconn.specs.declared.moves.Pushed.TheVariants as V
+use Rattle.ts_wire.specs.declared.fields.Field.{Field}
 use Rattle.ts_wire.specs.declared.heads.RequestHead.{RequestHead}
 use Rattle.ts_wire.specs.declared.heads.ResponseHead.{ResponseHead}
 use Rattle.ts_block.specs.declared.own_answer.OwnStatus.{OwnStatus}
 use Rattle.ts_block.specs.declared.own_answer.OwnStatus.TheVariants as O
+use Rattle.ts_phases.specs.Causes.{EndsForCause, HasCause, HasCounts, StandsForCause}
 use Rattle.ts_phases.specs.Holding.{StepKeeps}
 use Rattle.ts_phases.specs.Moving.{LowersUpload, MovesUpload, SeeksRequest, SeeksResponse, QueuesOwn}
 use Rattle.ts_phases.specs.Moving.{QueuesRequest, WritesClient}
@@ -32,6 +36,11 @@ use Rattle.ts_phases.specs.declared.phase.Phase.{Phase}
 use Rattle.ts_phases.specs.declared.phase.Phase.TheVariants as P
 use Rattle.ts_phases.specs.declared.phase.Request.{Request}
 use Rattle.ts_phases.specs.declared.phase.Step.{Step}
+use Rattle.ts_phases.proofs.Causes.{KeepsCounts, answer_cause, answers_cause, asked_kept, cause_kept}
+use Rattle.ts_phases.proofs.Causes.{closes_cause, counts_kept, heard_kept, own_kept, queued_kept}
+use Rattle.ts_phases.proofs.Causes.{request_cause, sent_kept, still_kept, told_kept, upload_cause}
+use Rattle.ts_phases.proofs.Causes.{upload_kept}
+use Rattle.ts_phases.proofs.OneSide.{read_failed, write_failed}
 use Rattle.ts_phases.proofs.Leaving.{asked_leaves, heard_leaves, queued_leaves, still_leaves, wrote_leaves}
 use Rattle.ts_phases.proofs.Minding.{client_left, found_again, found_failed, full_client, full_origin}
 use Rattle.ts_phases.proofs.Minding.{heard_request, heard_response, late_client, late_origin, lost_client}
@@ -44,6 +53,7 @@ use Rattle.ts_phases.proofs.Waiting.{asked_waits, client_waits, heard_waits, ori
 -- where nothing moved, nothing is sent to the origin and nothing is read of the client
 origin_stays : (v : View) (p : Phase) → LeavesOriginIn p v v
 origin_stays v (P.SendRequestHdr q) = tt
+origin_stays v (P.RuleRequest q place fields) = tt
 origin_stays v (P.SendRequest q) = tt
 origin_stays v (P.Upload q) = tt
 origin_stays v _ = still_leaves v v refl
@@ -60,6 +70,7 @@ all_kept client origin both t = record {
   number = refl;
   setup = refl;
   plugins_at = refl;
+  hooks = refl;
   client = record { source = refl; name = refl; plan = refl };
   origin = record { source = refl; name = refl; plan = refl };
   client_base = refl;
@@ -78,16 +89,32 @@ abbrev after : {C O : Type 0} {client : link.Ghosts C} {origin : link.Ghosts O} 
     {t u : Core C O} → StepKeeps client origin both t u → View
 after {C} {O} {client} {origin} {both} {t} {u} keeps = view_of client origin u
 
+-- no count of a link fell, and the end of the next phase has its cause
+stands_on : (v w : View) (p n : Phase) → KeepsCounts v w → (HasCounts v → EndsForCause v p → EndsForCause w n)
+    → StandsForCause v p → StandsForCause w n
+stands_on v w p n kept cause stood = record {
+  counts = counts_kept v w kept stood.counts;
+  ends = cause stood.counts stood.ends;
+}
+
+-- the hook plugin lines of a transaction
+abbrev pub lines_of : {C O : Type 0} → Core C O → List PluginLine
+lines_of t = (arc_value t.setup).plugins.items
+
 module _ {C O : Type 0} {client : link.Ghosts C} {origin : link.Ghosts O} {both : upstream.Ghosts O C}
     {t u : Core C O} {s : Step} (keeps : StepKeeps client origin both t u) where
   -- nothing moved
-  pub unmoved : (p : Phase) → after keeps ≡ before keeps → MayFollow p s.phase
+  pub unmoved : (p : Phase) → after keeps ≡ before keeps → MayFollow (lines_of t) p s.phase
       → MindsLinksIn client origin both t u p s
-      → WaitsRightly s.next (before keeps) (after keeps) → StepOwes client origin both t u p s
-  unmoved p same follows minds waits = record {
+      → WaitsRightly s.next (before keeps) (after keeps)
+      → (EndsForCause (before keeps) p → EndsForCause (before keeps) s.phase)
+      → StepOwes client origin both t u p s
+  unmoved p same follows minds waits cause = record {
     follows = follows;
     minds = minds;
     waits = waits;
+    causes = stands_on (before keeps) (after keeps) p s.phase (still_kept (before keeps) (after keeps) same)
+        (λ has ends. subst (λ (x : View). EndsForCause x s.phase) (sym same) (cause ends));
     leaves = λ told also. record {
       origin = subst (λ (x : View). LeavesOriginIn p (before keeps) x) (sym same)
           (origin_stays (before keeps) p);
@@ -100,12 +127,15 @@ module _ {C O : Type 0} {client : link.Ghosts C} {origin : link.Ghosts O} {both 
   -- a request's head was looked for: the link was ready, was not, or failed
   asked_with : (found : Found RequestHead) → SeeksRequest client.tells (before keeps) (after keeps) found
       → MindsLinks (before keeps) (after keeps) s
-      → MayFollow P.ReadRequest s.phase → WaitsRightly s.next (before keeps) (after keeps)
+      → MayFollow (lines_of t) P.ReadRequest s.phase → WaitsRightly s.next (before keeps) (after keeps)
+      → (HasCounts (before keeps) → EndsForCause (after keeps) s.phase)
       → StepOwes client origin both t u P.ReadRequest s
-  asked_with found hears minds follows waits = record {
+  asked_with found hears minds follows waits cause = record {
     follows = follows;
     minds = minds;
     waits = waits;
+    causes = stands_on (before keeps) (after keeps) P.ReadRequest s.phase
+        (asked_kept (before keeps) (after keeps) client.tells found hears) (λ has ends. cause has);
     leaves = λ told also. record {
       origin = asked_leaves (before keeps) (after keeps) client.tells found
           hears;
@@ -116,38 +146,43 @@ module _ {C O : Type 0} {client : link.Ghosts C} {origin : link.Ghosts O} {both 
 
   pub asked : (found : Found RequestHead) → SeeksRequest client.tells (before keeps) (after keeps) found
       → found_failed found ≡ false
-      → found_again found ≡ false → MayFollow P.ReadRequest s.phase
-      → WaitsRightly s.next (before keeps) (after keeps)
+      → found_again found ≡ false → MayFollow (lines_of t) P.ReadRequest s.phase
+      → WaitsRightly s.next (before keeps) (after keeps) → EndsForCause (after keeps) s.phase
       → StepOwes client origin both t u P.ReadRequest s
-  asked found hears fine ready = asked_with found hears (heard_request client.tells (before keeps)
-      (after keeps) s found fine ready
-      hears)
+  asked found hears fine ready follows waits cause = asked_with found hears
+      (heard_request client.tells (before keeps) (after keeps) s found fine ready hears) follows waits
+      (λ has. cause)
 
   pub asked_late : SeeksRequest client.tells (before keeps) (after keeps) (F.Read L.Again) → s.next ≡ N.Wait
-      → MayFollow P.ReadRequest s.phase
+      → MayFollow (lines_of t) P.ReadRequest s.phase → EndsForCause (after keeps) s.phase
       → StepOwes client origin both t u P.ReadRequest s
-  asked_late hears later follows = asked_with (F.Read L.Again) hears
+  asked_late hears later follows cause = asked_with (F.Read L.Again) hears
       (late_client client.tells (before keeps) (after keeps) s hears later) follows
       (subst (λ next. WaitsRightly next (before keeps) (after keeps)) (sym later)
-      (asked_waits client.tells (before keeps) (after keeps) hears))
+      (asked_waits client.tells (before keeps) (after keeps) hears)) (λ has. cause)
 
   pub asked_lost : SeeksRequest client.tells (before keeps) (after keeps) (F.Read L.Failed)
       → ClosesForClientFault s.phase
-      → MayFollow P.ReadRequest s.phase → WaitsRightly s.next (before keeps) (after keeps)
+      → MayFollow (lines_of t) P.ReadRequest s.phase → WaitsRightly s.next (before keeps) (after keeps)
       → StepOwes client origin both t u P.ReadRequest s
-  asked_lost hears closes = asked_with (F.Read L.Failed) hears
-      (lost_client client.tells (before keeps) (after keeps) s hears closes)
+  asked_lost hears closes follows waits = asked_with (F.Read L.Failed) hears
+      (lost_client client.tells (before keeps) (after keeps) s hears closes) follows waits
+      (λ has. closes_cause (after keeps) s.phase closes (read_failed client.tells (before keeps).client
+      (after keeps).client L.Failed refl hears.finds.1 has.client))
 
   -- a response's head was looked for
   module _ (q : Request) where
     heard_with : (found : Found ResponseHead) → SeeksResponse origin.tells (before keeps) (after keeps) found
         → MindsLinks (before keeps) (after keeps) s
-        → MayFollow (P.ReadResponse q) s.phase → WaitsRightly s.next (before keeps) (after keeps)
+        → MayFollow (lines_of t) (P.ReadResponse q) s.phase → WaitsRightly s.next (before keeps) (after keeps)
+        → (HasCounts (before keeps) → EndsForCause (after keeps) s.phase)
         → StepOwes client origin both t u (P.ReadResponse q) s
-    heard_with found hears minds follows waits = record {
+    heard_with found hears minds follows waits cause = record {
       follows = follows;
       minds = minds;
       waits = waits;
+      causes = stands_on (before keeps) (after keeps) (P.ReadResponse q) s.phase
+          (heard_kept (before keeps) (after keeps) origin.tells found hears) (λ has ends. cause has);
       leaves = λ told also. record {
         origin = heard_leaves (before keeps) (after keeps) origin.tells found also hears;
         client = held_spares (before keeps) (after keeps) origin.tells found hears;
@@ -157,38 +192,44 @@ module _ {C O : Type 0} {client : link.Ghosts C} {origin : link.Ghosts O} {both 
 
     pub heard : (found : Found ResponseHead) → SeeksResponse origin.tells (before keeps) (after keeps) found
         → found_failed found ≡ false
-        → found_again found ≡ false → MayFollow (P.ReadResponse q) s.phase
-        → WaitsRightly s.next (before keeps) (after keeps)
+        → found_again found ≡ false → MayFollow (lines_of t) (P.ReadResponse q) s.phase
+        → WaitsRightly s.next (before keeps) (after keeps) → EndsForCause (after keeps) s.phase
         → StepOwes client origin both t u (P.ReadResponse q) s
-    heard found hears fine ready = heard_with found hears (heard_response origin.tells (before keeps)
-        (after keeps) s found fine ready
-        hears)
+    heard found hears fine ready follows waits cause = heard_with found hears
+        (heard_response origin.tells (before keeps) (after keeps) s found fine ready hears) follows waits
+        (λ has. cause)
 
     pub heard_late : SeeksResponse origin.tells (before keeps) (after keeps) (F.Read L.Again)
         → s.next ≡ N.Wait
-        → MayFollow (P.ReadResponse q) s.phase → StepOwes client origin both t u (P.ReadResponse q) s
-    heard_late hears later follows = heard_with (F.Read L.Again) hears
+        → MayFollow (lines_of t) (P.ReadResponse q) s.phase → EndsForCause (after keeps) s.phase
+        → StepOwes client origin both t u (P.ReadResponse q) s
+    heard_late hears later follows cause = heard_with (F.Read L.Again) hears
         (late_origin origin.tells (before keeps) (after keeps) s hears later) follows
         (subst (λ next. WaitsRightly next (before keeps) (after keeps)) (sym later)
-        (heard_waits origin.tells (before keeps) (after keeps) hears))
+        (heard_waits origin.tells (before keeps) (after keeps) hears)) (λ has. cause)
 
     pub heard_lost : SeeksResponse origin.tells (before keeps) (after keeps) (F.Read L.Failed)
         → AnswersOriginFault s.phase
-        → MayFollow (P.ReadResponse q) s.phase → WaitsRightly s.next (before keeps) (after keeps)
+        → MayFollow (lines_of t) (P.ReadResponse q) s.phase → WaitsRightly s.next (before keeps) (after keeps)
         → StepOwes client origin both t u (P.ReadResponse q) s
-    heard_lost hears answers = heard_with (F.Read L.Failed) hears
-        (lost_origin origin.tells (before keeps) (after keeps) s hears answers)
+    heard_lost hears answers follows waits = heard_with (F.Read L.Failed) hears
+        (lost_origin origin.tells (before keeps) (after keeps) s hears answers) follows waits
+        (λ has. answers_cause (after keeps) s.phase answers (read_failed origin.tells (before keeps).origin
+        (after keeps).origin L.Failed refl hears.finds.1 has.origin))
 
   -- the request's head was written to the origin
   module _ (q : Request) where
     sent_with : (p : Pushed) → WritesOrigin origin.tells (before keeps) (after keeps) p
         → MindsLinks (before keeps) (after keeps) s
-        → MayFollow (P.SendRequest q) s.phase → WaitsRightly s.next (before keeps) (after keeps)
+        → MayFollow (lines_of t) (P.SendRequest q) s.phase → WaitsRightly s.next (before keeps) (after keeps)
+        → (HasCounts (before keeps) → EndsForCause (after keeps) s.phase)
         → StepOwes client origin both t u (P.SendRequest q) s
-    sent_with p writes minds follows waits = record {
+    sent_with p writes minds follows waits cause = record {
       follows = follows;
       minds = minds;
       waits = waits;
+      causes = stands_on (before keeps) (after keeps) (P.SendRequest q) s.phase
+          (sent_kept (before keeps) (after keeps) origin.tells p writes) (λ has ends. cause has);
       leaves = λ told also. record {
         origin = tt;
         client = sent_spares (before keeps) (after keeps)
@@ -199,37 +240,44 @@ module _ {C O : Type 0} {client : link.Ghosts C} {origin : link.Ghosts O} {both 
 
     pub sent : (p : Pushed) → WritesOrigin origin.tells (before keeps) (after keeps) p → push_failed p ≡ false
         → push_again p ≡ false
-        → MayFollow (P.SendRequest q) s.phase → WaitsRightly s.next (before keeps) (after keeps)
-        → StepOwes client origin both t u (P.SendRequest q) s
-    sent p writes fine ready = sent_with p writes (wrote_origin origin.tells (before keeps) (after keeps) s p
-        fine ready writes)
+        → MayFollow (lines_of t) (P.SendRequest q) s.phase → WaitsRightly s.next (before keeps) (after keeps)
+        → EndsForCause (after keeps) s.phase → StepOwes client origin both t u (P.SendRequest q) s
+    sent p writes fine ready follows waits cause = sent_with p writes (wrote_origin origin.tells
+        (before keeps) (after keeps) s p fine ready writes) follows waits (λ has. cause)
 
     pub sent_late : WritesOrigin origin.tells (before keeps) (after keeps) V.Again → s.next ≡ N.Wait
-        → MayFollow (P.SendRequest q) s.phase
+        → MayFollow (lines_of t) (P.SendRequest q) s.phase → EndsForCause (after keeps) s.phase
         → StepOwes client origin both t u (P.SendRequest q) s
-    sent_late writes later follows = sent_with V.Again writes
+    sent_late writes later follows cause = sent_with V.Again writes
         (full_origin origin.tells (before keeps) (after keeps) s writes later)
         follows
         (subst (λ next. WaitsRightly next (before keeps) (after keeps)) (sym later)
-        (origin_waits origin.tells (before keeps) (after keeps) writes))
+        (origin_waits origin.tells (before keeps) (after keeps) writes)) (λ has. cause)
 
     pub sent_lost : WritesOrigin origin.tells (before keeps) (after keeps) V.Failed
         → AnswersOriginFault s.phase
-        → MayFollow (P.SendRequest q) s.phase → WaitsRightly s.next (before keeps) (after keeps)
+        → MayFollow (lines_of t) (P.SendRequest q) s.phase → WaitsRightly s.next (before keeps) (after keeps)
         → StepOwes client origin both t u (P.SendRequest q) s
-    sent_lost writes answers = sent_with V.Failed writes (origin_left origin.tells (before keeps)
-        (after keeps) s writes answers)
+    sent_lost writes answers follows waits = sent_with V.Failed writes (origin_left origin.tells
+        (before keeps) (after keeps) s writes answers) follows waits
+        (λ has. answers_cause (after keeps) s.phase answers (write_failed origin.tells (before keeps).origin
+        (after keeps).origin V.Failed refl writes.origin has.origin))
 
   -- an answer of the proxy's own was written to the client
   module _ (a : OwnAnswer) where
     told_with : (p : Pushed) → WritesClient client.tells (before keeps) (after keeps) p
         → MindsLinks (before keeps) (after keeps) s
-        → MayFollow (P.Sending a) s.phase → WaitsRightly s.next (before keeps) (after keeps)
+        → MayFollow (lines_of t) (P.Sending a) s.phase → WaitsRightly s.next (before keeps) (after keeps)
+        → (HasCounts (before keeps) → HasCause (after keeps) a.end → EndsForCause (after keeps) s.phase)
         → StepOwes client origin both t u (P.Sending a) s
-    told_with p writes minds follows waits = record {
+    told_with p writes minds follows waits cause = record {
       follows = follows;
       minds = minds;
       waits = waits;
+      causes = stands_on (before keeps) (after keeps) (P.Sending a) s.phase
+          (told_kept (before keeps) (after keeps) client.tells p writes) (λ has ends. cause has (cause_kept
+          (before keeps) (after keeps) (told_kept (before keeps) (after keeps) client.tells p writes) a.end
+          ends));
       leaves = λ told also. record {
         origin = wrote_leaves (before keeps) (after keeps) client.tells p writes;
         client = wrote_spares (before keeps) (after keeps) client.tells p told writes;
@@ -240,33 +288,41 @@ module _ {C O : Type 0} {client : link.Ghosts C} {origin : link.Ghosts O} {both 
     pub answered : (p : Pushed) → WritesClient client.tells (before keeps) (after keeps) p
         → push_failed p ≡ false
         → push_again p ≡ false
-        → MayFollow (P.Sending a) s.phase → WaitsRightly s.next (before keeps) (after keeps)
+        → MayFollow (lines_of t) (P.Sending a) s.phase → WaitsRightly s.next (before keeps) (after keeps)
+        → (HasCause (after keeps) a.end → EndsForCause (after keeps) s.phase)
         → StepOwes client origin both t u (P.Sending a) s
-    answered p writes fine ready = told_with p writes (wrote_client client.tells (before keeps) (after keeps)
-        s p fine ready writes)
+    answered p writes fine ready follows waits cause = told_with p writes (wrote_client client.tells
+        (before keeps) (after keeps) s p fine ready writes) follows waits (λ has. cause)
 
     pub answered_late : WritesClient client.tells (before keeps) (after keeps) V.Again → s.next ≡ N.Wait
-        → MayFollow (P.Sending a) s.phase
+        → MayFollow (lines_of t) (P.Sending a) s.phase
+        → (HasCause (after keeps) a.end → EndsForCause (after keeps) s.phase)
         → StepOwes client origin both t u (P.Sending a) s
-    answered_late writes later follows = told_with V.Again writes
+    answered_late writes later follows cause = told_with V.Again writes
         (full_client client.tells (before keeps) (after keeps) s writes later) follows
         (subst (λ next. WaitsRightly next (before keeps) (after keeps)) (sym later)
-        (client_waits client.tells (before keeps) (after keeps) writes))
+        (client_waits client.tells (before keeps) (after keeps) writes)) (λ has. cause)
 
     pub answered_lost : WritesClient client.tells (before keeps) (after keeps) V.Failed
         → ClosesForClientFault s.phase
-        → MayFollow (P.Sending a) s.phase → WaitsRightly s.next (before keeps) (after keeps)
+        → MayFollow (lines_of t) (P.Sending a) s.phase → WaitsRightly s.next (before keeps) (after keeps)
         → StepOwes client origin both t u (P.Sending a) s
-    answered_lost writes closes = told_with V.Failed writes (client_left client.tells (before keeps)
-        (after keeps) s writes closes)
+    answered_lost writes closes follows waits = told_with V.Failed writes (client_left client.tells
+        (before keeps) (after keeps) s writes closes) follows waits
+        (λ has ends. closes_cause (after keeps) s.phase closes (write_failed client.tells
+        (before keeps).client (after keeps).client V.Failed refl writes.client has.client))
 
   -- a text was queued
-  pub request_queued : (q : Request) (text : List ℕ) → QueuesRequest text (before keeps) (after keeps)
-      → MayFollow (P.SendRequestHdr q) s.phase
+  pub request_queued : (q : Request) (place : ℕ) (fields : List Field) (text : List ℕ)
+      → QueuesRequest text (before keeps) (after keeps)
+      → MayFollow (lines_of t) (P.RuleRequest q place fields) s.phase
       → WaitsRightly s.next (before keeps) (after keeps) → StepOwes client origin both t u
-      (P.SendRequestHdr q) s
-  request_queued q text queues follows waits = record {
+      (P.RuleRequest q place fields) s
+  request_queued q place fields text queues follows waits = record {
     follows = follows;
+    causes = stands_on (before keeps) (after keeps) (P.RuleRequest q place fields) s.phase
+        (queued_kept (before keeps) (after keeps) text queues)
+        (λ has ends. request_cause (after keeps) (lines_of t) q place fields s.phase follows);
     minds = queued_request (before keeps) (after keeps) s text queues;
     waits = waits;
     leaves = λ told also. record {
@@ -276,11 +332,17 @@ module _ {C O : Type 0} {client : link.Ghosts C} {origin : link.Ghosts O} {both 
     keeps = keeps;
   }
 
-  pub own_queued : (a : OwnAnswer) (head body : List ℕ) → QueuesOwn head body (before keeps) (after keeps)
-      → MayFollow (P.SendResponseHdr a) s.phase → WaitsRightly s.next (before keeps) (after keeps)
-      → StepOwes client origin both t u (P.SendResponseHdr a) s
-  own_queued a head body queues follows waits = record {
+  pub own_queued : (a : OwnAnswer) (place : ℕ) (fields : List Field) (head body : List ℕ)
+      → QueuesOwn head body (before keeps) (after keeps)
+      → MayFollow (lines_of t) (P.RuleAnswer a place fields) s.phase
+      → WaitsRightly s.next (before keeps) (after keeps)
+      → StepOwes client origin both t u (P.RuleAnswer a place fields) s
+  own_queued a place fields head body queues follows waits = record {
     follows = follows;
+    causes = stands_on (before keeps) (after keeps) (P.RuleAnswer a place fields) s.phase
+        (own_kept (before keeps) (after keeps) head body queues)
+        (λ has ends. answer_cause (after keeps) (lines_of t) a place fields s.phase follows (cause_kept
+        (before keeps) (after keeps) (own_kept (before keeps) (after keeps) head body queues) a.end ends));
     minds = queued_own (before keeps) (after keeps) s head body queues;
     waits = waits;
     leaves = λ told also. record {
@@ -297,34 +359,32 @@ pub uploads : {C O : Type 0} {client : link.Ghosts C} {origin : link.Ghosts O} {
     (view_of client origin t) (view_of client origin u)
     → LowersUpload answer (upload_of both t) (upload_of both u) (view_of client origin t)
     (view_of client origin u)
-    → UploadLeads answer q s → MayFollow (P.Upload q) s.phase
+    → UploadLeads answer q s → MayFollow (lines_of t) (P.Upload q) s.phase
     → WaitsRightly s.next (view_of client origin t) (view_of client origin u)
     → StepOwes client origin both t u (P.Upload q) s
-uploads keeps q answer moves lowers leads follows waits = record {
-  follows = follows;
-  minds = record { answer = answer; moves = moves; lowers = lowers; leads = leads };
-  waits = waits;
-  leaves = λ told also. record { origin = tt; client = tt };
-  keeps = keeps;
-}
+uploads {C} {O} {client} {origin} {both} {t} {u} {s} keeps q answer moves lowers leads follows waits =
+    record {
+      follows = follows;
+      causes = stands_on (view_of client origin t) (view_of client origin u) (P.Upload q) s.phase
+          (upload_kept (view_of client origin t) (view_of client origin u) client.tells origin.tells
+          (refuses_if both.refuses t.origin) answer moves)
+          (λ has ends. upload_cause (view_of client origin t) (view_of client origin u) client.tells
+          origin.tells (refuses_if both.refuses t.origin) q s answer leads moves has);
+      minds = record { answer = answer; moves = moves; lowers = lowers; leads = leads };
+      waits = waits;
+      leaves = λ told also. record { origin = tt; client = tt };
+      keeps = keeps;
+    }
 
 -- a step that calls nothing
 pub stands : {C O : Type 0} (client : link.Ghosts C) (origin : link.Ghosts O) (both : upstream.Ghosts O C)
-    (t : Core C O) {s : Step} (p : Phase) → MayFollow p s.phase → MindsLinksIn client origin both t t p s
+    (t : Core C O) {s : Step} (p : Phase) → MayFollow (lines_of t) p s.phase
+    → MindsLinksIn client origin both t t p s
     → WaitsRightly s.next (view_of client origin t) (view_of client origin t)
+    → (EndsForCause (view_of client origin t) p → EndsForCause (view_of client origin t) s.phase)
     → StepOwes client origin both t t p s
-stands client origin both t p follows minds waits = unmoved (all_kept client origin both t) p refl follows
-    minds waits
-
--- the same of a phase that is known by an equation
-pub stands_at : {C O : Type 0} (client : link.Ghosts C) (origin : link.Ghosts O) (both : upstream.Ghosts O C)
-    (t : Core C O) {s : Step} {p : Phase} (q : Phase) → p ≡ q → MayFollow q s.phase
-    → MindsLinksIn client origin both t t q s
-    → WaitsRightly s.next (view_of client origin t) (view_of client origin t)
-    → StepOwes client origin both t t p s
-stands_at client origin both t {s} {p} q is follows minds waits =
-    subst (λ (x : Phase). StepOwes client origin both t t x s) (sym is)
-    (stands client origin both t q follows minds waits)
+stands client origin both t p follows minds waits cause = unmoved (all_kept client origin both t) p refl
+    follows minds waits cause
 
 -- the answer that was read, by an equation
 pub request_read : {t : Bool} {v w : View} {p q : Pulled} → p ≡ q → SeeksRequest t v w (F.Read p)

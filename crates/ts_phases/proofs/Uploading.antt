@@ -22,7 +22,8 @@ use Rattle.ts_block.specs.Rules.{ruled}
 use Rattle.ts_block.specs.Block.{own_block, request_text}
 use Rattle.ts_phases.specs.View.{HasFailed, LinkSide, View}
 use Rattle.ts_phases.specs.Moving.{MovesUpload}
-use Rattle.ts_phases.specs.Facts.{AwaitsFinal, CarriesRequest, Goes, OwnReady, TookExactly, Uploading, decided}
+use Rattle.ts_phases.specs.Facts.{AwaitsFinal, CarriesRequest, Goes, OwnReady, TookExactly, Uploading}
+use Rattle.ts_phases.specs.Facts.{decided}
 use Rattle.ts_phases.specs.Facts as facts
 use Rattle.ts_phases.specs.Ends.{AnyEnd, EndFact}
 use Rattle.ts_block.specs.declared.own_answer.OwnStatus.TheVariants as O

@@ -4,18 +4,23 @@
 -- changes. In all of them `c` is all that the client gives.
 use Rattle.std.specs.Prelude.{◌≡◌, ◌≢◌, ℕ, ◌≤◌, ◌++◌, List, [], length, Bool, true, false, Ok}
 use Rattle.ts_config.specs.declared.setup.Setup.{Setup}
+use Rattle.ts_config.specs.declared.fields.Side.{Side}
+use Rattle.ts_hooks.specs.declared.hook.Hook.TheVariants as hook
 use Rattle.ts_hooks.specs.declared.txn_end.TxnEnd.TheVariants as E
 use Rattle.ts_link.specs.Link.{all_of}
+use Rattle.ts_wire.specs.declared.fields.Field.{Field}
 use Rattle.ts_wire.specs.declared.heads.ResponseHead.{ResponseHead}
 use Rattle.ts_wire.specs.declared.frames.Mode.TheVariants as M
 use Rattle.ts_wire.specs.Limits.{head_limit}
 use Rattle.ts_wire.specs.Check.{check, plugin_host}
-use Rattle.ts_block.specs.Rules.{is_denied}
+use Rattle.ts_block.specs.Rules.{is_denied, ruled}
 use Rattle.ts_block.specs.Own.{own_sent}
 use Rattle.ts_phases.specs.Moving.{cuts_of}
 use Rattle.ts_block.specs.Relayed.{asks_head}
 use Rattle.ts_block.specs.Heads.{HasRequest, PassesInterims, FinalHead, LacksFinal}
 use Rattle.ts_block.specs.Block.{IsBlock, IsGood, own_block, own_text, request_text}
+use Rattle.ts_plugin.specs.Lines.{lines_at, lines_left}
+use Rattle.ts_plugin.specs.Replies.{hook_of_side}
 use Rattle.ts_phases.specs.View.{HasCount, HasFailed, LinkSide, View}
 use Rattle.ts_block.specs.declared.own_answer.OwnStatus.TheVariants as O
 use Rattle.ts_phases.specs.declared.parts.Sent.{Sent}
@@ -75,6 +80,21 @@ pub record TookExactly (request : List ℕ) (origin : LinkSide) : Type 0 where
   pub no_waits : origin.outbox ≡ []
 
 module _ (setup : Setup) where
+  -- So many plugins at OS_DNS let the request pass: its host is denied if a line that is still to come denies
+  -- it.
+  pub record PassesDeny (v : View) (q : Request) (place : ℕ) : Type 0 where
+    pub checked : PassesCheck v q
+    pub few : place ≤ length (lines_at hook.OsDns setup.plugins.items)
+    pub still : is_denied setup.plugins.items (plugin_host q.host)
+        ≡ is_denied (lines_left hook.OsDns place setup.plugins.items) (plugin_host q.host)
+
+  -- So many plugins at the hook of a side have answered, and the rules that are still to come make of these
+  -- fields what all rules make of those before.
+  pub record IsRuledTo (side : Side) (before : List Field) (place : ℕ) (fields : List Field) : Type 0 where
+    pub few : place ≤ length (lines_at (hook_of_side side) setup.plugins.items)
+    pub still : ruled side setup.plugins.items before
+        ≡ ruled side (lines_left (hook_of_side side) place setup.plugins.items) fields
+
   -- the request goes to an origin: no deny line denies its host, and there is one
   pub record Goes (c : List ℕ) (q : Request) (dialed : Bool) : Type 0 where
     pub knows : Knows c q

@@ -1,14 +1,18 @@
 -- What holds of a transaction by its phase, where its links tell, and what a step keeps.
-use Rattle.std.specs.Prelude.{◌≡◌, Bool, true}
+use Rattle.std.specs.Prelude.{◌≡◌, [], ◌∷◌, Bool, true}
 use Rattle.std.specs.Arc.{arc_value}
 use Rattle.ts_config.specs.declared.setup.Setup.{Setup}
+use Rattle.ts_config.specs.declared.fields.Side.TheVariants as S
 use Rattle.ts_link.specs.Link.{Look}
 use Rattle.ts_link.specs.declared.link.Link as link
 use Rattle.ts_upstream.specs.declared.upstream.Upstream as upstream
 use Rattle.ts_upstream.specs.Uploads.{SameRefusal}
 use Rattle.ts_phases.specs.View.{IsPaired, OriginRefuses, View, is_dialed, refuses_if, side_if, view_of}
-use Rattle.ts_phases.specs.Facts.{IsAllowed, Asking, AwaitsFinal, PassesCheck, OwnReady, OwnSends, Relays}
-use Rattle.ts_phases.specs.Facts.{SendingRequest, Uploading}
+use Rattle.ts_wire.specs.Forward.{forwarded}
+use Rattle.ts_block.specs.Own.{own_field}
+use Rattle.ts_plugin.specs.Lines.{table_of}
+use Rattle.ts_phases.specs.Facts.{IsAllowed, IsRuledTo, Asking, AwaitsFinal, PassesCheck, PassesDeny}
+use Rattle.ts_phases.specs.Facts.{OwnReady, OwnSends, Relays, SendingRequest, Uploading}
 use Rattle.ts_phases.specs.Ends.{EndFact}
 use Rattle.ts_phases.specs.declared.parts.Core.{Core}
 use Rattle.ts_phases.specs.declared.phase.Phase.{Phase}
@@ -21,17 +25,27 @@ module _ (setup : Setup) (refuses : Type 0) where
   PhaseFact v P.TxnStart = Asking v
   PhaseFact v P.ReadRequest = Asking v
   PhaseFact v (P.ReadRequestHdr q) = PassesCheck v q
-  PhaseFact v (P.OsDns q) = PassesCheck v q
+  PhaseFact v (P.OsDns q place) = PassesDeny setup v q place
   PhaseFact v (P.SendRequestHdr q) = IsAllowed setup v q
+  PhaseFact v (P.RuleRequest q place fields) =
+      IsAllowed setup v q × IsRuledTo setup S.Request (forwarded q.head.fields) place fields
   PhaseFact v (P.SendRequest q) = SendingRequest setup v q
   PhaseFact v (P.Upload q) = Uploading setup v q
   PhaseFact v (P.ReadResponse q) = AwaitsFinal setup refuses v q
   PhaseFact v (P.ReadResponseHdr q h) = Relays setup refuses v q h
   PhaseFact v (P.ResponseTransform q h) = Relays setup refuses v q h
+  PhaseFact v (P.RuleResponse q h place fields) =
+      Relays setup refuses v q h × IsRuledTo setup S.Response (forwarded h.fields) place fields
   PhaseFact v (P.SendResponseHdr a) = OwnReady setup refuses v a
+  PhaseFact v (P.RuleAnswer a place fields) =
+      OwnReady setup refuses v a × IsRuledTo setup S.Response (own_field ∷ []) place fields
   PhaseFact v (P.Sending a) = OwnSends setup refuses v a
   PhaseFact v (P.TxnClose end) = EndFact setup refuses v end
   PhaseFact v (P.Ended end) = EndFact setup refuses v end
+
+-- its hook table is that of its configuration's plugin lines
+abbrev pub HasTable : {C O : Type 0} → Core C O → Type 0
+HasTable t = t.hooks ≡ table_of t.plugins_at (arc_value t.setup).plugins.items
 
 -- both links tell their bytes
 abbrev pub IfTold : Bool → Bool → Type 0 → Type 0
@@ -60,6 +74,7 @@ pub record StepKeeps {C O : Type 0} (client_link : link.Ghosts C) (origin_link :
   pub number : new.number ≡ old.number
   pub setup : new.setup ≡ old.setup
   pub plugins_at : new.plugins_at ≡ old.plugins_at
+  pub hooks : new.hooks ≡ old.hooks
   pub client : IsSameLink (client_link.look old.client.link) (client_link.look new.client.link)
   pub origin : IsSameLink (side_if origin_link.look old.origin).look
       (side_if origin_link.look new.origin).look

@@ -1,9 +1,12 @@
+pub mod Asking
+pub mod Causes
 pub mod Checking
 pub mod Cover
 pub mod Ends
 pub mod Facts
 pub mod Fronts
 pub mod Holding
+pub mod Leading
 pub mod Lowering
 pub mod Moving
 pub mod Owed

@@ -1,7 +1,7 @@
 -- What a transaction has left to do, as a number that each of its events lowers: what is left to read, to
 -- pass each boundary and to write, and the Again answers that are left, each weighted above what it makes;
 -- and the pending events.
-use Rattle.std.specs.Prelude.{ℕ, ◌+◌, ◌*◌, List, [], ◌∷◌, length, Option, Some, None}
+use Rattle.std.specs.Prelude.{◌≡◌, ℕ, ◌+◌, ◌*◌, List, [], ◌∷◌, length, Option, Some, None}
 use Rattle.std.specs.Arc.{arc_value}
 use Rattle.ts_config.specs.declared.setup.Setup.{Setup}
 use Rattle.ts_config.specs.declared.setup.TransformLine.{TransformLine}
@@ -10,6 +10,10 @@ use Rattle.ts_config.specs.declared.fields.Rule.{Rule}
 use Rattle.ts_config.specs.declared.fields.Rule.TheVariants.{Set, Add, Remove}
 use Rattle.ts_config.specs.declared.fields.PluginLine.{PluginLine}
 use Rattle.ts_config.specs.declared.fields.PluginLine.TheVariants.{Deny, Header}
+use Rattle.ts_group.specs.declared.world.Asked.{Asked}
+use Rattle.ts_group.specs.declared.world.Asked.TheVariants as A
+use Rattle.ts_hooks.specs.declared.hook.Hook.{Hook}
+use Rattle.ts_hooks.specs.declared.hook.Hook.TheVariants as hook
 use Rattle.ts_journal.specs.declared.entry.Pending.{Pending}
 use Rattle.ts_link.specs.Link.{Fewer, NoMore}
 use Rattle.ts_link.specs.declared.link.Link as link
@@ -18,6 +22,9 @@ use Rattle.ts_upstream.specs.Uploads.{Rose8, both, taken_since}
 use Rattle.ts_wire.specs.Limits.{field_limit, head_limit}
 use Rattle.ts_block.specs.Block.{own_text, request_text}
 use Rattle.ts_block.specs.Own.{own_body}
+use Rattle.ts_plugin.specs.Lines.{lines_at, lines_left}
+use Rattle.ts_plugin.specs.declared.question.HookQuestion.{HookQuestion}
+use Rattle.ts_plugin.specs.declared.question.HookReply.{HookReply}
 use Rattle.ts_phases.specs.Holding.{IfTold}
 use Rattle.ts_phases.specs.View.{LinkSide, View, side_if, upload_of, view_of}
 use Rattle.ts_block.specs.declared.own_answer.OwnStatus.{OwnStatus}
@@ -25,6 +32,7 @@ use Rattle.ts_block.specs.declared.own_answer.OwnStatus.TheVariants as O
 use Rattle.ts_phases.specs.declared.parts.Core.{Core}
 use Rattle.ts_phases.specs.declared.phase.Next.{Next}
 use Rattle.ts_phases.specs.declared.phase.Next.TheVariants as N
+use Rattle.ts_phases.specs.declared.phase.OwnAnswer.{OwnAnswer}
 use Rattle.ts_phases.specs.declared.phase.Phase.{Phase}
 use Rattle.ts_phases.specs.declared.phase.Phase.TheVariants as P
 use Rattle.ts_phases.specs.declared.phase.Request.{Request}
@@ -123,6 +131,20 @@ module _ (setup : Setup) where
   to_hear origin = pump_weight * passes setup.transforms.items (length origin.look.left + length origin.inbox)
       + 2 * length origin.look.left + length origin.inbox
 
+  -- how many plugins are asked at a hook, and how many are still to be asked at a place of it
+  abbrev pub asks_at : Hook → ℕ
+  asks_at hook = length (lines_at hook setup.plugins.items)
+
+  abbrev pub asks_left : Hook → ℕ → ℕ
+  asks_left hook place = length (lines_left hook place setup.plugins.items)
+
+  -- before the request is sent, at its hook and the one behind that; and before its lookup, at all three
+  abbrev pub sending_asks : ℕ
+  sending_asks = asks_at hook.SendRequestHdr + asks_at hook.SendResponseHdr
+
+  abbrev pub all_asks : ℕ
+  all_asks = asks_at hook.OsDns + sending_asks
+
   -- THE PHASES, of which each pays for those behind it. `again` is how many Again answers are left, and
   -- `upload` how much upload.
   module _ (again upload : ℕ) (v : View) where
@@ -144,19 +166,31 @@ module _ (setup : Setup) where
     abbrev pub ask_work : ℕ
     ask_work = request_work head_room + to_ask v.client
 
+    -- what is left where the client's head is queued and its body begins
+    abbrev pub enter_work : ℕ
+    enter_work = 6 + answer_work
+
+    -- what is left with an answer of the proxy's own
+    abbrev pub own_work : OwnAnswer → ℕ
+    own_work a = writes_work + own_length a.status
+
     abbrev pub phase_work : Phase → ℕ
-    phase_work P.Fresh = 16 + ask_work
-    phase_work P.TxnStart = 15 + ask_work
-    phase_work P.ReadRequest = 14 + ask_work
-    phase_work (P.ReadRequestHdr q) = 13 + text_work q
-    phase_work (P.OsDns q) = 12 + text_work q
-    phase_work (P.SendRequestHdr q) = 11 + text_work q
-    phase_work (P.SendRequest q) = 10 + request_work 0
-    phase_work (P.Upload q) = 9 + answer_work + upload
-    phase_work (P.ReadResponse q) = 8 + answer_work
-    phase_work (P.ReadResponseHdr q h) = 7 + answer_work
-    phase_work (P.ResponseTransform q h) = 6 + answer_work
-    phase_work (P.SendResponseHdr a) = 3 + writes_work + own_length a.status
+    phase_work P.Fresh = 18 + all_asks + ask_work
+    phase_work P.TxnStart = 17 + all_asks + ask_work
+    phase_work P.ReadRequest = 16 + all_asks + ask_work
+    phase_work (P.ReadRequestHdr q) = 15 + all_asks + text_work q
+    phase_work (P.OsDns q place) = 14 + (asks_left hook.OsDns place + sending_asks) + text_work q
+    phase_work (P.SendRequestHdr q) = 13 + sending_asks + text_work q
+    phase_work (P.RuleRequest q place fields) =
+        12 + (asks_left hook.SendRequestHdr place + asks_at hook.SendResponseHdr) + text_work q
+    phase_work (P.SendRequest q) = 11 + asks_at hook.SendResponseHdr + request_work 0
+    phase_work (P.Upload q) = 10 + asks_at hook.SendResponseHdr + answer_work + upload
+    phase_work (P.ReadResponse q) = 9 + asks_at hook.SendResponseHdr + answer_work
+    phase_work (P.ReadResponseHdr q h) = 8 + asks_at hook.SendResponseHdr + answer_work
+    phase_work (P.ResponseTransform q h) = 7 + asks_at hook.SendResponseHdr + answer_work
+    phase_work (P.RuleResponse q h place fields) = asks_left hook.SendResponseHdr place + enter_work
+    phase_work (P.SendResponseHdr a) = 4 + asks_at hook.SendResponseHdr + own_work a
+    phase_work (P.RuleAnswer a place fields) = 3 + asks_left hook.SendResponseHdr place + own_work a
     phase_work (P.Sending a) = 2 + writes_work
     phase_work (P.TxnClose end) = 1
     phase_work (P.Ended end) = 0
@@ -176,7 +210,9 @@ abbrev pub upload_in : Option ℕ → Phase → Option ℕ
 upload_in upload (P.ReadResponse q) = Some 0
 upload_in upload (P.ReadResponseHdr q h) = Some 0
 upload_in upload (P.ResponseTransform q h) = Some 0
+upload_in upload (P.RuleResponse q h place fields) = Some 0
 upload_in upload (P.SendResponseHdr a) = Some 0
+upload_in upload (P.RuleAnswer a place fields) = Some 0
 upload_in upload (P.Sending a) = Some 0
 upload_in upload (P.TxnClose end) = Some 0
 upload_in upload (P.Ended end) = Some 0
@@ -187,6 +223,10 @@ upload_in upload _ = upload
 abbrev pub work_left : Setup → Option ℕ → View → Phase → Option ℕ
 work_left setup upload v p = if_told (agains_left v) (upload_in upload p)
     (λ again more. phase_work setup again more v p)
+
+-- and where the body of a response begins
+abbrev pub enter_left : Setup → View → Option ℕ
+enter_left setup v = if_told (agains_left v) (Some 0) (λ again upload. enter_work setup again upload v)
 
 -- A step lowers what is left, and the last one doesn't raise it.
 abbrev pub StepFalls : Next → Option ℕ → Option ℕ → Type 0
@@ -203,6 +243,11 @@ number_left pending (Some work) = Some (events_paid * work + length pending)
 abbrev pub StepLowers : Setup → Phase → Option ℕ → Option ℕ → View → View → Step → Type 0
 StepLowers setup p upload upload_then v w s =
     StepFalls s.next (work_left setup upload v p) (work_left setup upload_then w s.phase)
+
+-- What comes of a question lowers what is left, as a step does; a miss leaves it as it was.
+abbrev pub ToldLowers : Asked HookQuestion HookReply → Next → Option ℕ → Option ℕ → Type 0
+ToldLowers (A.Missed seen question) next old new = new ≡ old
+ToldLowers asked next old new = StepFalls next old new
 
 module _ {C O : Type 0} (client : link.Ghosts C) (origin : link.Ghosts O) (pair : upstream.Ghosts O C) where
   -- the step of a phase lowers what is left, where both links tell

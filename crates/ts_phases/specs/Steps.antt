@@ -47,9 +47,10 @@ pub record LeavesOrigin (v w : View) : Type 0 where
   pub taken : w.origin.look.taken ≡ v.origin.look.taken
   pub waits : w.origin.outbox ≡ v.origin.outbox
 
--- something is in three phases alone, of which each has its own fact on what
+-- something is in four phases alone, of which each has its own fact on what
 abbrev pub LeavesOriginIn : Phase → View → View → Type 0
 LeavesOriginIn (P.SendRequestHdr q) v w = ⊤
+LeavesOriginIn (P.RuleRequest q place fields) v w = ⊤
 LeavesOriginIn (P.SendRequest q) v w = ⊤
 LeavesOriginIn (P.Upload q) v w = ⊤
 LeavesOriginIn _ v w = LeavesOrigin v w

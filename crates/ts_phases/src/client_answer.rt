@@ -1,31 +1,76 @@
 //! The phases in which an answer of the proxy's own is queued and written to the client.
-ghost use Rattle.std.specs.Prelude.{◌≡◌, IfOk};
+ghost use Rattle.std.specs.Arc.{arc_value};
+ghost use Rattle.ts_hooks.specs.declared.hook.Hook.TheVariants as Hook;
+ghost use Rattle.ts_phases.specs.Leading.{LeadsTo};
 ghost use Rattle.ts_phases.specs.Lowering.{StepFallsFrom};
-ghost use Rattle.ts_phases.specs.Owed.{StepOwes};
-ghost use Rattle.ts_block.specs.Block.{own_text};
+ghost use Rattle.ts_phases.specs.Owed.{NoneLeft, StepOwes};
 ghost use Rattle.ts_phases.specs.Cover.{StepLeads};
-ghost use Rattle.ts_phases.specs.Holding.{PhaseHolds, HoldsAfter};
+ghost use Rattle.ts_phases.specs.Holding.{HasTable, PhaseHolds, HoldsAfter};
 
 use crate::parts::Core;
-use crate::phase::{Next, OwnAnswer, Phase, Step};
-use ts_block::own_text;
-use ts_link::Link;
+use crate::phase::{Led, Next, OwnAnswer, Phase, Step};
+use ts_block::own_fields;
+use ts_hooks::Hook;
+use ts_link::{Link, Octets};
+use ts_plugin::HookQuestion;
 use ts_upstream::Upstream;
 use ts_vconn::Pushed;
+use ts_wire::Fields;
 
 impl<C: Link, O: Upstream<C>> Core<C, O> {
-    /// Queues an answer of the proxy's own.
-    pub(crate) fn send_response_hdr(&mut self, answer: OwnAnswer) -> Step
+    /// Takes the fields of an answer of the proxy's own, and begins to ask the plugins at SEND_RESPONSE_HDR.
+    pub(crate) fn send_response_hdr(&mut self, answer: OwnAnswer) -> Led
         requires fact { PhaseHolds C.Link O.Link O.Upstream.own self.old
             (Phase.SendResponseHdr answer) }
+        requires table { HasTable self.old }
+        ensures { LeadsTo C.Link O.Link O.Upstream.own self.old self.new
+            (Phase.SendResponseHdr answer) result }
+    {
+        let Ok(fields) = own_fields(self.alloc) else {
+            return Led::Steps(Step::LACKS);
+        };
+        self.rule_answer(answer, 0, fields)
+    }
+
+    /// Asks the next plugin at SEND_RESPONSE_HDR; where none is left, the answer is queued.
+    pub(crate) fn rule_answer(&mut self, answer: OwnAnswer, place: usize, fields: Fields) -> Led
+        requires fact { PhaseHolds C.Link O.Link O.Upstream.own self.old
+            (Phase.RuleAnswer answer place fields) }
+        requires table { HasTable self.old }
+        ensures { LeadsTo C.Link O.Link O.Upstream.own self.old self.new
+            (Phase.RuleAnswer answer place fields) result }
+    {
+        let Some(group) = self.hooks.next(Hook::SendResponseHdr, place) else {
+            return Led::Steps(self.queue_answer(answer, place, fields));
+        };
+        Led::Asks {
+            phase: Phase::RuleAnswer {
+                answer,
+                place,
+                fields: Fields::new(self.alloc),
+            },
+            group,
+            question: HookQuestion {
+                hook: Hook::SendResponseHdr,
+                host: Octets::of_vec(Vec::new(self.alloc)),
+                fields,
+            },
+        }
+    }
+
+    // Queues an answer of the proxy's own, with the fields after all plugins.
+    fn queue_answer(&mut self, answer: OwnAnswer, place: usize, fields: Fields) -> Step
+        requires fact { PhaseHolds C.Link O.Link O.Upstream.own self.old
+            (Phase.RuleAnswer answer place fields) }
+        requires none { NoneLeft (arc_value self.old.setup).plugins.items Hook.SendResponseHdr place }
         ensures leads { StepLeads result }
         ensures fact { HoldsAfter C.Link O.Link O.Upstream.own self.old self.new result }
         ensures owes { StepOwes C.Link O.Link O.Upstream.own self.old self.new
-            (Phase.SendResponseHdr answer) result }
+            (Phase.RuleAnswer answer place fields) result }
         ensures falls { StepFallsFrom C.Link O.Link O.Upstream.own self.old self.new
-            (Phase.SendResponseHdr answer) result }
+            (Phase.RuleAnswer answer place fields) result }
     {
-        let Ok(head) = own_text(self.alloc, &self.setup, answer.status) else {
+        let Ok(head) = answer.status.head(self.alloc, &fields) else {
             return Step::LACKS;
         };
         match self.queue_own(head.bytes(), answer.status.sent(answer.to_head)) {

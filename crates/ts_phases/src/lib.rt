@@ -1,17 +1,20 @@
-//! The phases of a transaction up to the head of its answer: what each reads and writes at its two sides.
+//! The phases of a transaction up to the head of its answer: what each reads and writes at its two sides, and
+//! asks at its hooks.
 #![tactic(auto)]
 
 mod body_sides;
 mod client_answer;
 mod client_request;
 mod head_reader;
+mod lead;
 mod origin_request;
 mod origin_response;
 mod parts;
 mod peers;
 mod phase;
+mod replies;
 mod sides;
-mod step;
 
 pub use parts::{Core, Peer, Sent};
-pub use phase::{Next, Phase, Request, Step};
+pub use phase::{Led, Next, Phase, Request, Step};
+pub use replies::told_step;

@@ -3,6 +3,7 @@
 use std::alloc::Global;
 use std::sync::Arc;
 use ts_config::Setup;
+use ts_hooks::HookTable;
 use ts_iobuf::Waiting;
 use ts_wire::Mode;
 
@@ -37,6 +38,8 @@ pub struct Core<C, O> {
     pub setup: Arc<Setup>,
     /// The group of the first plugin line; those of the others follow.
     pub plugins_at: u32,
+    /// The groups of the plugins that are asked at each hook.
+    pub hooks: HookTable,
     pub client: Peer<C>,
     pub origin: Option<Peer<O>>,
     pub sent: Sent,

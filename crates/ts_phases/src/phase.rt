@@ -1,9 +1,10 @@
-//! The phases of a transaction, and what a step of one answers.
+//! The phases of a transaction, and what an event of one leads to.
 
 use ts_block::OwnStatus;
 use ts_hooks::TxnEnd;
 use ts_link::Octets;
-use ts_wire::{RequestHead, ResponseHead};
+use ts_plugin::HookQuestion;
+use ts_wire::{Fields, RequestHead, ResponseHead};
 
 /// A request that passed the check: its head, the target that the origin gets, and the host.
 #[derive(Drop)]
@@ -34,11 +35,19 @@ pub enum Phase {
     ReadRequestHdr {
         request: Request,
     },
+    /// So many of the hook's plugins have let the request pass.
     OsDns {
         request: Request,
+        place: usize,
     },
     SendRequestHdr {
         request: Request,
+    },
+    /// So many of the plugins at SEND_REQUEST_HDR have answered, and these are the fields after them.
+    RuleRequest {
+        request: Request,
+        place: usize,
+        fields: Fields,
     },
     /// The request head is written to the origin.
     SendRequest {
@@ -60,8 +69,22 @@ pub enum Phase {
         request: Request,
         head: ResponseHead,
     },
+    /// So many of the plugins at SEND_RESPONSE_HDR have answered for a response that is passed on, and these
+    /// are the fields after them.
+    RuleResponse {
+        request: Request,
+        head: ResponseHead,
+        place: usize,
+        fields: Fields,
+    },
     SendResponseHdr {
         answer: OwnAnswer,
+    },
+    /// The same for an answer of the proxy's own.
+    RuleAnswer {
+        answer: OwnAnswer,
+        place: usize,
+        fields: Fields,
     },
     /// What was queued is written to the client.
     Sending {
@@ -114,4 +137,24 @@ impl Step {
         },
         next: Next::Go,
     };
+}
+
+/// What an event of a phase leads to.
+#[derive(Drop)]
+pub enum Led {
+    /// A step was made.
+    Steps(Step),
+    /// The plugin of a group is asked, at a hook's phase whose fields stand in the question until its reply.
+    Asks {
+        phase: Phase,
+        group: u32,
+        question: HookQuestion,
+    },
+    /// All plugins have answered for the head of a response that is passed on, and these are the fields after
+    /// them: its body begins.
+    Enters {
+        request: Request,
+        head: ResponseHead,
+        fields: Fields,
+    },
 }

@@ -19,6 +19,7 @@ use Rattle.ts_phases.proofs.Asks.{never, passed, refused, stands}
 use Rattle.ts_phases.proofs.LoweringAnswers.{asks_close, asks_end, asks_own, asks_passes, asks_some}
 use Rattle.ts_phases.proofs.LoweringAnswers.{asks_wait}
 use Rattle.ts_phases.proofs.Owed.{asked, asked_late, asked_lost, ends_whole, request_read}
+use Rattle.ts_phases.proofs.Causes.{whole_cause}
 use Rattle.ts_phases.proofs.parts.Core.read_request.Goals as goal
 
 -- the answer where no head can come
@@ -29,42 +30,44 @@ no_head = record { status = O.BadRequest; to_head = false; end = E.Whole }
 
 pub returns-in-Ok-Pass-clause-owes : goal.returns-in-Ok-Pass-clause-owes
 returns-in-Ok-Pass-clause-owes g c =
-    asked c.in-Head.ensures.keeps (F.Head c.in-Head.head) c.in-Head.ensures.seeks refl refl tt tt
+    asked c.in-Head.ensures.keeps (F.Head c.in-Head.head) c.in-Head.ensures.seeks refl refl tt tt tt
 
 pub returns-in-Ok-Refused-clause-owes : goal.returns-in-Ok-Refused-clause-owes
 returns-in-Ok-Refused-clause-owes g c =
     let is : IsCheckedAs c.in-Head.head (C.Refused c.in-Ok-Refused.answer) =
     subst (λ r. IsCheckedAs c.in-Head.head r) c.in-Ok-Refused.field-0-is c.in-Ok-Refused.ensures in
     asked c.in-Head.ensures.keeps (F.Head c.in-Head.head) c.in-Head.ensures.seeks refl refl
-    (ends_whole is.2) tt
+    (ends_whole is.2) tt (whole_cause (view_of g.C.Link g.O.Link c.seek_request.new.self)
+    c.in-Ok-Refused.answer.end (ends_whole is.2))
 
 pub returns-in-Err-clause-owes : goal.returns-in-Err-clause-owes
 returns-in-Err-clause-owes g c =
     asked c.in-Head.ensures.keeps (F.Head c.in-Head.head) c.in-Head.ensures.seeks refl refl refl tt
+    tt
 
 pub returns-in-Never-clause-owes : goal.returns-in-Never-clause-owes
 returns-in-Never-clause-owes g c =
-    asked c.in-Never.ensures.keeps F.Never c.in-Never.ensures.seeks refl refl refl tt
+    asked c.in-Never.ensures.keeps F.Never c.in-Never.ensures.seeks refl refl refl tt tt
 
 pub returns-in-Read-Some-clause-owes : goal.returns-in-Read-Some-clause-owes
 returns-in-Read-Some-clause-owes g c =
     asked c.in-Read-Some.ensures.keeps (F.Read (L.Some _))
-    (request_read c.in-Read-Some.field-0-is c.in-Read-Some.ensures.seeks) refl refl tt tt
+    (request_read c.in-Read-Some.field-0-is c.in-Read-Some.ensures.seeks) refl refl tt tt tt
 
 pub returns-then-is_empty-clause-owes : goal.returns-then-is_empty-clause-owes
 returns-then-is_empty-clause-owes g c =
     asked c.in-Read-End.ensures.keeps (F.Read L.End)
-    (request_read c.in-Read-End.field-0-is c.in-Read-End.ensures.seeks) refl refl (inl refl) tt
+    (request_read c.in-Read-End.field-0-is c.in-Read-End.ensures.seeks) refl refl (inl refl) tt tt
 
 pub returns-else-is_empty-clause-owes : goal.returns-else-is_empty-clause-owes
 returns-else-is_empty-clause-owes g c =
     asked c.in-Read-End.ensures.keeps (F.Read L.End)
-    (request_read c.in-Read-End.field-0-is c.in-Read-End.ensures.seeks) refl refl refl tt
+    (request_read c.in-Read-End.field-0-is c.in-Read-End.ensures.seeks) refl refl refl tt tt
 
 pub returns-in-Read-Again-clause-owes : goal.returns-in-Read-Again-clause-owes
 returns-in-Read-Again-clause-owes g c =
     asked_late c.in-Read-Again.ensures.keeps
-    (request_read c.in-Read-Again.field-0-is c.in-Read-Again.ensures.seeks) refl tt
+    (request_read c.in-Read-Again.field-0-is c.in-Read-Again.ensures.seeks) refl tt tt
 
 pub returns-in-Read-Failed-clause-owes : goal.returns-in-Read-Failed-clause-owes
 returns-in-Read-Failed-clause-owes g c =
@@ -73,7 +76,7 @@ returns-in-Read-Failed-clause-owes g c =
 
 pub returns-in-NoMemory-clause-owes : goal.returns-in-NoMemory-clause-owes
 returns-in-NoMemory-clause-owes g c =
-    asked c.in-NoMemory.ensures.keeps F.NoMemory c.in-NoMemory.ensures.seeks refl refl refl tt
+    asked c.in-NoMemory.ensures.keeps F.NoMemory c.in-NoMemory.ensures.seeks refl refl refl tt tt
 
 -- ---- where it leads
 

@@ -5,11 +5,13 @@ use Rattle.ts_vconn.specs.declared.moves.Pulled.TheVariants as L
 use Rattle.ts_phases.specs.declared.head_reader.Found.TheVariants as F
 use Rattle.std.specs.Arc.{arc_value}
 use Rattle.ts_hooks.specs.declared.txn_end.TxnEnd.TheVariants as E
+use Rattle.ts_phases.specs.View.{view_of}
 use Rattle.ts_phases.proofs.Asks.{lacks_memory}
 use Rattle.ts_phases.proofs.LoweringAnswers.{hears_dropped, hears_end, hears_final, hears_own, hears_some}
 use Rattle.ts_phases.proofs.LoweringAnswers.{hears_wait}
-use Rattle.ts_phases.proofs.Owed.{bad_gateway, heard, heard_late, heard_lost, lost_response, no_response}
-use Rattle.ts_phases.proofs.Owed.{response_read}
+use Rattle.ts_phases.proofs.Causes.{whole_cause}
+use Rattle.ts_phases.proofs.Owed.{bad_gateway, ends_whole, heard, heard_late, heard_lost, lost_response}
+use Rattle.ts_phases.proofs.Owed.{no_response, response_read}
 use Rattle.ts_phases.proofs.Responding.{awaits_any, awaits_on, awaits_still, ended_early, failed_early}
 use Rattle.ts_phases.proofs.Responding.{interim, no_head, refused_head, relays}
 use Rattle.ts_phases.proofs.parts.Core.read_response.Goals as goal
@@ -19,43 +21,48 @@ use Rattle.ts_phases.proofs.parts.Core.read_response.Goals as goal
 pub returns-then-is_interim-clause-owes : goal.returns-then-is_interim-clause-owes
 returns-then-is_interim-clause-owes g c =
     heard c.in-Head.ensures.keeps c.args.request (F.Head c.in-Head.head)
-    c.in-Head.ensures.seeks refl refl refl tt
+    c.in-Head.ensures.seeks refl refl refl tt tt
 
 pub returns-then-is_good-clause-owes : goal.returns-then-is_good-clause-owes
 returns-then-is_good-clause-owes g c =
     heard c.in-Head.ensures.keeps c.args.request (F.Head c.in-Head.head)
-    c.in-Head.ensures.seeks refl refl refl tt
+    c.in-Head.ensures.seeks refl refl refl tt tt
 
 pub returns-else-is_good-clause-owes : goal.returns-else-is_good-clause-owes
 returns-else-is_good-clause-owes g c =
     heard c.in-Head.ensures.keeps c.args.request (F.Head c.in-Head.head)
     c.in-Head.ensures.seeks refl refl (no_response c.answer_to-bad.ensures) tt
+    (whole_cause (view_of g.C.Link g.O.Link c.seek_response.new.self)
+    c.answer_to-bad.result.end (ends_whole c.answer_to-bad.ensures))
 
 pub returns-in-Never-clause-owes : goal.returns-in-Never-clause-owes
 returns-in-Never-clause-owes g c =
     heard c.in-Never.ensures.keeps c.args.request F.Never
     c.in-Never.ensures.seeks refl refl (no_response c.answer_to-bad.ensures) tt
+    (whole_cause (view_of g.C.Link g.O.Link c.seek_response.new.self)
+    c.answer_to-bad.result.end (ends_whole c.answer_to-bad.ensures))
 
 pub returns-in-Read-End-clause-owes : goal.returns-in-Read-End-clause-owes
 returns-in-Read-End-clause-owes g c =
     heard c.in-Read-End.ensures.keeps c.args.request (F.Read L.End)
     (response_read c.in-Read-End.field-0-is c.in-Read-End.ensures.seeks) refl refl
-    (no_response c.answer_to-bad.ensures) tt
+    (no_response c.answer_to-bad.ensures) tt (whole_cause (view_of g.C.Link g.O.Link c.seek_response.new.self)
+    c.answer_to-bad.result.end (ends_whole c.answer_to-bad.ensures))
 
 pub returns-in-Read-Some-clause-owes : goal.returns-in-Read-Some-clause-owes
 returns-in-Read-Some-clause-owes g c =
     heard c.in-Read-Some.ensures.keeps c.args.request (F.Read (L.Some _))
-    (response_read c.in-Read-Some.field-0-is c.in-Read-Some.ensures.seeks) refl refl refl tt
+    (response_read c.in-Read-Some.field-0-is c.in-Read-Some.ensures.seeks) refl refl refl tt tt
 
 pub returns-in-NoMemory-clause-owes : goal.returns-in-NoMemory-clause-owes
 returns-in-NoMemory-clause-owes g c =
     heard c.in-NoMemory.ensures.keeps c.args.request F.NoMemory
-    c.in-NoMemory.ensures.seeks refl refl refl tt
+    c.in-NoMemory.ensures.seeks refl refl refl tt tt
 
 pub returns-in-Read-Again-clause-owes : goal.returns-in-Read-Again-clause-owes
 returns-in-Read-Again-clause-owes g c =
     heard_late c.in-Read-Again.ensures.keeps c.args.request (response_read c.in-Read-Again.field-0-is
-    c.in-Read-Again.ensures.seeks) refl refl
+    c.in-Read-Again.ensures.seeks) refl refl tt
 
 pub returns-in-Read-Failed-clause-owes : goal.returns-in-Read-Failed-clause-owes
 returns-in-Read-Failed-clause-owes g c =

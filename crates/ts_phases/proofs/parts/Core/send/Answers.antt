@@ -14,15 +14,16 @@ use Rattle.ts_phases.proofs.parts.Core.send.Goals as goal
 pub returns-in-Some-clause-owes : goal.returns-in-Some-clause-owes
 returns-in-Some-clause-owes g c =
     answered c.in-Some.ensures.keeps c.args.answer (V.Some _) c.in-Some.ensures.writes refl refl refl tt
+    (λ has. has)
 
 pub returns-in-Nothing-clause-owes : goal.returns-in-Nothing-clause-owes
 returns-in-Nothing-clause-owes g c =
     answered c.in-Nothing.ensures.keeps c.args.answer V.Nothing c.in-Nothing.ensures.writes refl refl
-    (inl refl) tt
+    (inl refl) tt (λ has. has)
 
 pub returns-in-Again-clause-owes : goal.returns-in-Again-clause-owes
 returns-in-Again-clause-owes g c =
-    answered_late c.in-Again.ensures.keeps c.args.answer c.in-Again.ensures.writes refl refl
+    answered_late c.in-Again.ensures.keeps c.args.answer c.in-Again.ensures.writes refl refl (λ has. has)
 
 pub returns-in-Failed-clause-owes : goal.returns-in-Failed-clause-owes
 returns-in-Failed-clause-owes g c =
@@ -31,7 +32,7 @@ returns-in-Failed-clause-owes g c =
 pub returns-in-NoMemory-clause-owes : goal.returns-in-NoMemory-clause-owes
 returns-in-NoMemory-clause-owes g c =
     answered c.in-NoMemory.ensures.keeps c.args.answer V.NoMemory c.in-NoMemory.ensures.writes refl refl refl
-    tt
+    tt (λ has. tt)
 
 -- ---- where it leads
 

@@ -13,15 +13,15 @@ use Rattle.ts_phases.proofs.parts.Core.send_request.Goals as goal
 
 pub returns-in-Some-clause-owes : goal.returns-in-Some-clause-owes
 returns-in-Some-clause-owes g c =
-    sent c.in-Some.ensures.keeps c.args.request (V.Some _) c.in-Some.ensures.writes refl refl refl tt
+    sent c.in-Some.ensures.keeps c.args.request (V.Some _) c.in-Some.ensures.writes refl refl refl tt tt
 
 pub returns-in-Nothing-clause-owes : goal.returns-in-Nothing-clause-owes
 returns-in-Nothing-clause-owes g c =
-    sent c.in-Nothing.ensures.keeps c.args.request V.Nothing c.in-Nothing.ensures.writes refl refl refl tt
+    sent c.in-Nothing.ensures.keeps c.args.request V.Nothing c.in-Nothing.ensures.writes refl refl refl tt tt
 
 pub returns-in-Again-clause-owes : goal.returns-in-Again-clause-owes
 returns-in-Again-clause-owes g c =
-    sent_late c.in-Again.ensures.keeps c.args.request c.in-Again.ensures.writes refl refl
+    sent_late c.in-Again.ensures.keeps c.args.request c.in-Again.ensures.writes refl refl tt
 
 pub returns-in-Failed-clause-owes : goal.returns-in-Failed-clause-owes
 returns-in-Failed-clause-owes g c =
@@ -31,6 +31,7 @@ returns-in-Failed-clause-owes g c =
 pub returns-in-NoMemory-clause-owes : goal.returns-in-NoMemory-clause-owes
 returns-in-NoMemory-clause-owes g c =
     sent c.in-NoMemory.ensures.keeps c.args.request V.NoMemory c.in-NoMemory.ensures.writes refl refl refl tt
+    tt
 
 -- ---- where it leads
 
