@@ -1,5 +1,6 @@
 -- The events of the continuations while a body is passed on.
-use Rattle.std.proofs.Common.{◌≡◌, ◌≢◌, ℕ, ◌≤◌, ◌⊎◌, inl, inr, List, [], ◌∷◌, Bool, true, false, Option, Some, None, Result, refl, sym, ap, subst, ◌∙◌, arith}
+use Rattle.std.proofs.Common.{◌≡◌, ◌≢◌, ℕ, ◌≤◌, ◌⊎◌, inl, inr, List, [], ◌∷◌, Bool, true, false, Option, Some}
+use Rattle.std.proofs.Common.{None, Result, refl, sym, ap, subst, ◌∙◌, arith}
 use Rattle.std.specs.Prelude.{⊤}
 use Rattle.ts_config.specs.declared.setup.Setup.{Setup}
 use Rattle.ts_hooks.specs.declared.txn_end.TxnEnd.TheVariants as E
@@ -13,7 +14,8 @@ use Rattle.ts_group.specs.Context.{Context, IsOrderly}
 use Rattle.ts_transform.specs.Driving.{ActsWithin, IsHandled, IsRousedIf, KeepsOthers, unroused, works_at}
 use Rattle.ts_transform.specs.declared.driven.DrivenChain.{DrivenChain}
 use Rattle.ts_transform.specs.declared.continuation.StageContinuation.{StageContinuation}
-use Rattle.ts_transform.proofs.Joined.{joined_driven, joined_ends, joined_quiet, joined_reader, joined_stage, joined_writer, runs_before}
+use Rattle.ts_transform.proofs.Joined.{joined_driven, joined_ends, joined_quiet, joined_reader, joined_stage}
+use Rattle.ts_transform.proofs.Joined.{joined_writer, runs_before}
 use Rattle.ts_transform.specs.Seats.{HasKey, KeepsSeated}
 use Rattle.ts_transform.proofs.Seating.{seated_as, seated_behind, seated_then}
 use Rattle.ts_transform.proofs.Kept.{acts_none, acts_then, few_refl, keeps_refl, kept_all}
@@ -28,7 +30,9 @@ use Rattle.ts_relay.specs.Feeding.{OnGoes}
 use Rattle.ts_relay.specs.Finishing.{LeadsBody}
 use Rattle.ts_relay.specs.Relaying.{DrivesOn, RelaysBody, StepsChain, step_after}
 use Rattle.ts_relay.specs.Entering.{BeginsRelay, BeginsRunning}
-use Rattle.ts_relay.specs.Duties.{BeginsBody, DoesOwnWork, EndsRouse, IsBodyCovered, IsBodyJoined, HandlesBody, RunsOr, SettledAs, SettlesAfter, SettlesBody, TellsDuty, UnlessLacking, WhileGoes, body_seats, relay_seats}
+use Rattle.ts_relay.specs.Duties.{BeginsBody, DoesOwnWork, EndsRouse, IsBodyCovered, IsBodyJoined}
+use Rattle.ts_relay.specs.Duties.{HandlesBody, RunsOr, SettledAs, SettlesAfter, SettlesBody, TellsDuty}
+use Rattle.ts_relay.specs.Duties.{UnlessLacking, WhileGoes, body_seats, relay_seats}
 use Rattle.ts_relay.specs.declared.last_writes.BodyStep.{BodyStep}
 use Rattle.ts_relay.specs.declared.last_writes.BodyStep.TheVariants as S
 use Rattle.ts_relay.specs.declared.relay.TheConstants.{MAIN, FIRST, READER}

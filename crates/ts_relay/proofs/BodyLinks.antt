@@ -1,5 +1,6 @@
 -- The steps of a body, and what they do with the two links: which of them is called, and which counts rise.
-use Rattle.std.proofs.Common.{◌≡◌, ℕ, ◌+◌, ◌≤◌, inl, inr, List, [], ◌++◌, Bool, true, false, Option, Result, Err, length, length-append, drop, refl, sym, ap, subst, ◌∙◌, arith}
+use Rattle.std.proofs.Common.{◌≡◌, ℕ, ◌+◌, ◌≤◌, inl, inr, List, [], ◌++◌, Bool, true, false, Option, Result}
+use Rattle.std.proofs.Common.{Err, length, length-append, drop, refl, sym, ap, subst, ◌∙◌, arith}
 use Rattle.std.proofs.lemmas.List.{append-nil, length-drop}
 use Rattle.std.specs.Prelude.{⊤}
 use Rattle.ts_hooks.specs.declared.txn_end.TxnEnd.{TxnEnd}
@@ -34,7 +35,9 @@ use Rattle.ts_phases.specs.RelayMoves.{QueuesText, ReadsOrigin}
 use Rattle.ts_relay.specs.Feeding.{DrainsOrigin, FeedsBody, FeedsTo, GetsPart, OnGoes}
 use Rattle.ts_relay.specs.Relaying.{AddsSome, StepsChain, step_after}
 use Rattle.ts_relay.specs.Duties.{SettledAs, UnlessLacking}
-use Rattle.ts_relay.specs.BodyLinks.{HandlesLinks, HoldsLittle, KeepsQueued, IsUnread, IsUnwritten, MindsBody, OnlyOfBody, OnlyOfEnds, RestLeads, ReadsLinks, SendsRest, WritesLinks, is_client_fault, is_late, is_origin_fault, pause_if}
+use Rattle.ts_relay.specs.BodyLinks.{HandlesLinks, HoldsLittle, KeepsQueued, IsUnread, IsUnwritten, MindsBody}
+use Rattle.ts_relay.specs.BodyLinks.{OnlyOfBody, OnlyOfEnds, RestLeads, ReadsLinks, SendsRest, WritesLinks}
+use Rattle.ts_relay.specs.BodyLinks.{is_client_fault, is_late, is_origin_fault, pause_if}
 use Rattle.ts_link.specs.declared.clock.TheConstants.{RETRY_AFTER}
 use Rattle.ts_relay.specs.declared.relay.TheConstants.{MAIN, FIRST, READER}
 use Rattle.ts_relay.specs.declared.last_writes.BodyStep.{BodyStep}

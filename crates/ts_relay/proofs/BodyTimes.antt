@@ -1,5 +1,6 @@
 -- Which events the steps of a body set, and when these are due.
-use Rattle.std.proofs.Common.{◌≡◌, ℕ, ◌+◌, ◌<◌, ◌⊎◌, inl, inr, List, [], Bool, true, false, Option, Some, None, length, arith, refl, sym, ap, subst, ◌∙◌}
+use Rattle.std.proofs.Common.{◌≡◌, ℕ, ◌+◌, ◌<◌, ◌⊎◌, inl, inr, List, [], Bool, true, false, Option, Some}
+use Rattle.std.proofs.Common.{None, length, arith, refl, sym, ap, subst, ◌∙◌}
 use Rattle.std.proofs.lemmas.Bool.{false≢true}
 use Rattle.ts_journal.specs.declared.entry.Event.{Event}
 use Rattle.ts_journal.specs.declared.entry.Pending.{Pending}
@@ -11,7 +12,8 @@ use Rattle.ts_group.specs.Entries.{Grows}
 use Rattle.ts_transform.specs.Acting.{IsStage}
 use Rattle.ts_transform.specs.Cover.{IsRousing, MaySet}
 use Rattle.ts_transform.specs.Driven.{Acts, IsDrivenWhile, IsOfNoStage}
-use Rattle.ts_transform.specs.Driving.{ActsWithin, AreNamed, IsNamedIf, IsRousingOf, Keeps, KeepsOthers, SetsOnly, unroused_at, works_at}
+use Rattle.ts_transform.specs.Driving.{ActsWithin, AreNamed, IsNamedIf, IsRousingOf, Keeps, KeepsOthers}
+use Rattle.ts_transform.specs.Driving.{SetsOnly, unroused_at, works_at}
 use Rattle.ts_transform.specs.Flow.{ChainState}
 use Rattle.ts_transform.specs.declared.continuation.StageContinuation.{StageContinuation}
 use Rattle.ts_transform.specs.declared.driven.DrivenChain.{DrivenChain}

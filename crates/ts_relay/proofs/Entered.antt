@@ -1,5 +1,6 @@
 -- How a body begins to be passed on: what was made of it, and where its first steps lead.
-use Rattle.std.proofs.Common.{◌≡◌, ℕ, ◌+◌, ◌≤◌, inl, inr, List, [], ◌∷◌, ◌++◌, map, length, Bool, true, false, Option, Some, None, refl, sym, ap, subst, ◌∙◌, arith}
+use Rattle.std.proofs.Common.{◌≡◌, ℕ, ◌+◌, ◌≤◌, inl, inr, List, [], ◌∷◌, ◌++◌, map, length, Bool, true, false}
+use Rattle.std.proofs.Common.{Option, Some, None, refl, sym, ap, subst, ◌∙◌, arith}
 use Rattle.std.specs.Prelude.{⊤}
 use Rattle.std.proofs.lemmas.Bool.{OnTrue_from, false≢true, true≢false}
 use Rattle.std.proofs.lemmas.List.{append-nil}
@@ -22,7 +23,8 @@ use Rattle.ts_transform.specs.Driven.{HasBegun, IsDrivenWhile}
 use Rattle.ts_transform.specs.Loss.{IsCauseOf}
 use Rattle.ts_transform.specs.declared.loss.Loss.{Loss}
 use Rattle.ts_transform.specs.declared.loss.Loss.TheVariants as L
-use Rattle.ts_transform.specs.Flow.{ChainState, EndsInOrder, HasWork, OnlyFirstWorks, compose, flow, fresh_stage}
+use Rattle.ts_transform.specs.Flow.{ChainState, EndsInOrder, HasWork, OnlyFirstWorks, compose, flow}
+use Rattle.ts_transform.specs.Flow.{fresh_stage}
 use Rattle.ts_transform.specs.declared.driven.DrivenChain.{DrivenChain}
 use Rattle.ts_transform.proofs.Starting.{fresh-first, made_if}
 use Rattle.ts_wire.specs.declared.framing.Framing.{Framing}
@@ -45,7 +47,8 @@ use Rattle.ts_relay.specs.Finishing.{LeadsBody}
 use Rattle.ts_phases.specs.RelayMoves.{QueuesHead}
 use Rattle.ts_relay.specs.Relaying.{DrivesOn, ReadsBody, RelaysBody, StepsChain}
 use Rattle.ts_relay.specs.Duties.{relay_seats}
-use Rattle.ts_relay.specs.Entering.{BeginsChain, BeginsRelay, BeginsRunning, EntersBody, GetsStart, IsFreshRelay, IsUnbegun, CallsNeither}
+use Rattle.ts_relay.specs.Entering.{BeginsChain, BeginsRelay, BeginsRunning, EntersBody, GetsStart}
+use Rattle.ts_relay.specs.Entering.{IsFreshRelay, IsUnbegun, CallsNeither}
 use Rattle.ts_relay.specs.declared.last_writes.BodyStep.{BodyStep}
 use Rattle.ts_relay.specs.declared.last_writes.BodyStep.TheVariants as S
 use Rattle.ts_phases.specs.declared.phase.Request.{Request}

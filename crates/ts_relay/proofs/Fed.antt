@@ -1,9 +1,10 @@
 -- A reader of bodies that is fed with what waits, and whether a body ends with its bytes.
-use Rattle.std.proofs.Common.{◌≡◌, ◌≢◌, ℕ, ◌<◌, ◌≤◌, ◌⊎◌, inl, inr, arith, List, [], ◌++◌, length, take, drop, true, false, refl, sym, ap, subst, ◌∙◌}
+use Rattle.std.proofs.Common.{◌≡◌, ◌≢◌, ℕ, ◌<◌, ◌≤◌, ◌⊎◌, inl, inr, arith, List, [], length, take, drop}
+use Rattle.std.proofs.Common.{true, false, refl, subst, ◌∙◌}
 use Rattle.std.specs.Prelude.{slice_range, ◌↔◌}
 use Rattle.ts_lists.proofs.Fronts.{front_then_rest}
 use Rattle.httparse.proofs.RunLemmas.{length-slice_range}
-use Rattle.std.proofs.lemmas.List.{append-nil, length-take, take-append-drop, take-take}
+use Rattle.std.proofs.lemmas.List.{append-nil, length-take}
 use Rattle.std.proofs.lemmas.Bool.{false≢true, true≢false}
 use Rattle.ts_transform.specs.Flow.{ChainState}
 use Rattle.ts_wire.specs.declared.body.BodyEnd.{BodyEnd}

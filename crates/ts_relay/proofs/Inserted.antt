@@ -1,5 +1,6 @@
 -- Bytes that are put into a list, and what the transform lines and a chain make of them.
-use Rattle.std.proofs.Common.{◌≡◌, inl, inr, ℕ, ◌+◌, ◌≤◌, List, [], ◌∷◌, ◌++◌, length, map, filter, Bool, true, false, cond, arith, refl, sym, ap, subst}
+use Rattle.std.proofs.Common.{◌≡◌, inl, inr, ℕ, ◌+◌, ◌≤◌, List, [], ◌∷◌, ◌++◌, length, map, filter, Bool}
+use Rattle.std.proofs.Common.{true, false, cond, arith, refl, sym, ap, subst}
 use Rattle.std.specs.Prelude.{◌==◌, not, if◌then◌else◌}
 use Rattle.ts_config.specs.Bodies.{whole_of}
 use Rattle.ts_config.specs.declared.setup.TransformLine.{TransformLine}

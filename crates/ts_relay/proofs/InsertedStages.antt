@@ -1,5 +1,6 @@
 -- A chain of transforms that add no more stays one, and a chain of fresh transforms has little to do.
-use Rattle.std.proofs.Common.{◌≡◌, ℕ, zero, suc, ◌+◌, ◌≤◌, List, [], ◌∷◌, length, map, filter, take, Bool, true, false, cond, arith, refl, sym, subst, length-append}
+use Rattle.std.proofs.Common.{◌≡◌, ℕ, zero, suc, ◌+◌, ◌≤◌, List, [], ◌∷◌, length, map, take}
+use Rattle.std.proofs.Common.{arith, refl, sym, subst, length-append}
 use Rattle.std.specs.Prelude.{◌==◌, not, Option, None, if◌then◌else◌}
 use Rattle.std.proofs.lemmas.List.{length-map}
 use Rattle.ts_lists.proofs.Sizes.{filter_within}

@@ -1,5 +1,6 @@
 -- Each step of a body lowers what a transaction has left to do.
-use Rattle.std.proofs.Common.{◌≡◌, ℕ, ◌+◌, ◌*◌, ◌<◌, ◌≤◌, List, [], ◌∷◌, ◌++◌, length, Bool, true, false, arith, refl, sym, ap, subst, ◌∙◌, length-append}
+use Rattle.std.proofs.Common.{◌≡◌, ℕ, ◌+◌, ◌*◌, ◌<◌, ◌≤◌, List, [], ◌∷◌, ◌++◌, length, Bool, true, false}
+use Rattle.std.proofs.Common.{arith, refl, sym, ap, subst, ◌∙◌, length-append}
 use Rattle.std.specs.Prelude.{Some}
 use Rattle.ts_config.specs.declared.setup.Setup.{Setup}
 use Rattle.ts_config.specs.declared.setup.TransformLine.{TransformLine}
@@ -20,9 +21,11 @@ use Rattle.ts_phases.specs.Moving.{WritesClient}
 use Rattle.ts_phases.specs.RelayMoves.{FramesEnd, FramesPiece, QueuesText, ReadsOrigin}
 use Rattle.ts_relay.specs.Feeding.{DrainsOrigin}
 use Rattle.ts_phases.specs.Lowering.{agains_left, end_room, if_told, passes, pump_weight, to_hear}
-use Rattle.ts_relay.specs.LoweringBody.{IsOfLines, body_left, body_work, chain_work, close_left, ended_left, finish_left}
+use Rattle.ts_relay.specs.LoweringBody.{IsOfLines, body_left, body_work, chain_work, close_left, ended_left}
+use Rattle.ts_relay.specs.LoweringBody.{finish_left}
 use Rattle.ts_relay.proofs.Inserted.{inserted_append, inserted_behind, passing_more, stage_passes}
-use Rattle.ts_phases.proofs.Lowering.{comes_hear, least_came, least_went, none_fall, one_if, passes_less, read_comes, told_fewer, went_some}
+use Rattle.ts_phases.proofs.Lowering.{comes_hear, least_came, least_went, none_fall, one_if, passes_less}
+use Rattle.ts_phases.proofs.Lowering.{read_comes, told_fewer, went_some}
 use Rattle.ts_phases.proofs.LoweringSteps.{Calm, reads_calm, sends_calm}
 
 -- ---- sums

@@ -1,5 +1,6 @@
 -- The step with which a body begins to be passed on lowers what a transaction has left to do.
-use Rattle.std.proofs.Common.{◌≡◌, ℕ, ◌+◌, ◌*◌, ◌<◌, ◌≤◌, List, [], ◌∷◌, length, map, filter, Bool, true, false, cond, arith, refl, sym, ap, subst, ◌∙◌, length-append}
+use Rattle.std.proofs.Common.{◌≡◌, ℕ, ◌+◌, ◌*◌, ◌<◌, ◌≤◌, List, [], ◌∷◌, length, map, filter, Bool, true}
+use Rattle.std.proofs.Common.{false, cond, arith, refl, sym, ap, subst, ◌∙◌, length-append}
 use Rattle.std.proofs.Math.Nat.{le_of_eq, le_trans}
 use Rattle.std.specs.Prelude.{Option, Some, None, ⊤, if◌then◌else◌}
 use Rattle.std.proofs.lemmas.List.{length-map}
@@ -28,7 +29,8 @@ use Rattle.ts_phases.specs.View.{LinkSide, View}
 use Rattle.ts_phases.specs.RelayMoves.{QueuesHead}
 use Rattle.ts_transform.specs.declared.transform.Transform as transform
 use Rattle.ts_relay.specs.Inserted.{AllAddNoMore, AreOfLines, IsOfParts}
-use Rattle.ts_phases.specs.Lowering.{agains_left, chain_room, end_room, head_room, if_told, lines_length, own_room, passes, phase_work, pump_weight, to_hear, work_left}
+use Rattle.ts_phases.specs.Lowering.{agains_left, chain_room, end_room, enter_left, enter_work, head_room}
+use Rattle.ts_phases.specs.Lowering.{if_told, lines_length, own_room, passes, pump_weight, to_hear}
 use Rattle.ts_wire.specs.Limits.{head_limit}
 use Rattle.ts_relay.specs.BodyLinks.{HoldsLittle}
 use Rattle.ts_relay.specs.Duties.{SettledAs}
@@ -36,8 +38,8 @@ use Rattle.ts_relay.specs.Entering.{BeginsRelay, GetsStart}
 use Rattle.ts_phases.specs.Facts.{Relays}
 use Rattle.ts_relay.specs.Feeding.{OnGoes}
 use Rattle.ts_phases.specs.Holding.{IfTold}
-use Rattle.ts_relay.specs.LoweringBody.{BeginsLower, HasChainRoom, LowersEntering, body_left, body_work, errors_left, unbegun_left}
-use Rattle.ts_phases.specs.declared.phase.Phase.TheVariants as P
+use Rattle.ts_relay.specs.LoweringBody.{BeginsLower, HasChainRoom, LowersEntering, body_left, body_work}
+use Rattle.ts_relay.specs.LoweringBody.{errors_left, unbegun_left}
 use Rattle.ts_relay.specs.declared.last_writes.BodyStep.{BodyStep}
 use Rattle.ts_relay.specs.declared.last_writes.BodyStep.TheVariants as S
 use Rattle.ts_phases.specs.declared.phase.Request.{Request}
@@ -171,12 +173,12 @@ enter_next i x x' out out' text own head chain work errors hear hear' given agai
 
 -- The head of the response is queued, and the chain has no more to do than its room.
 pub enters : {B : Type 0} (setup : Setup) (rest : B → List ℕ → List ℕ) (errors : ℕ) (v w : View)
-    (u : Option ℕ) (q : Request) (h : ResponseHead) (mode : Mode)
-    (c : ChainState B) (bytes behind : List ℕ) → HasResponse bytes h behind
+    (q : Request) (h : ResponseHead) (mode : Mode) (c : ChainState B) (bytes behind : List ℕ)
+    → HasResponse bytes h behind
     → QueuesHead (relayed_head setup q.head h) mode v w
-    → left_to_do rest c [] + errors ≤ chain_room setup → Fewer (work_left setup u v (P.ResponseTransform q h))
+    → left_to_do rest c [] + errors ≤ chain_room setup → Fewer (enter_left setup v)
     (body_left setup rest errors w c)
-enters setup rest errors v w u q h mode c bytes behind reads queues room =
+enters setup rest errors v w q h mode c bytes behind reads queues room =
     let text = relayed_head setup q.head h in
     let len : length w.client.outbox ≡ length v.client.outbox + length text = ap (λ (s : LinkSide). length
     s.outbox) queues.client ∙ length-append v.client.outbox text in
@@ -185,8 +187,8 @@ enters setup rest errors v w u q h mode c bytes behind reads queues room =
     (sym queues.origin)
     (subst (λ (s : LinkSide). AgainsFall false (agains_left v) (both s.look.agains v.origin.look.agains))
     (sym queues.client) (none_fall (agains_left v))) in
-    told_fewer (λ x y. phase_work setup x y v (P.ResponseTransform q h)) (λ x y. body_work setup rest errors x
-    w c) false 0 (agains_left v) (agains_left w) (Some 0) (Some 0) again (none_left (Some 0) 0)
+    told_fewer (λ x y. enter_work setup x y v) (λ x y. body_work setup rest errors x w c) false 0
+    (agains_left v) (agains_left w) (Some 0) (Some 0) again (none_left (Some 0) 0)
     (λ x x' y y' falls upload. enter_next (one_if false) x x' (length v.client.outbox)
     (length w.client.outbox) (length text) (own_room setup) (head_room setup) (chain_room setup)
     (left_to_do rest c []) errors (to_hear setup v.origin) (to_hear setup w.origin) (to_end c.given) falls len
@@ -205,16 +207,16 @@ entered_little v w c same none held =
 pub queues_lower : {B : Type 0} (ct ot : Bool) (setup : Setup) (refuses : Type 0) (rest : B → List ℕ → List ℕ)
     (v w : View) (q : Request) (h : ResponseHead) (text : List ℕ) (mode : Mode) (r : Relay B)
     → IfTold ct ot (Relays setup refuses v q h) → r.driven.chain.first ≡ [] → HasChainRoom setup rest
-    r.driven.chain → text ≡ relayed_head setup q.head h → QueuesHead text mode v w
-    → LowersEntering ct ot setup rest q h v w r
+    r.driven.chain → IfTold ct ot (text ≡ relayed_head setup q.head h) → QueuesHead text mode v w
+    → LowersEntering ct ot setup rest v w r
 queues_lower ct ot setup refuses rest v w q h text mode r relays none room is queues = record {
   lines = room.lines;
   little = λ told also. entered_little v w r.driven.chain queues.origin none (relays told also).held;
   falls = λ told also.
       let reads = (relays told also).reads in
-      enters setup rest (length r.driven.chain.stages) v w (Some 0) q h mode r.driven.chain reads.from
+      enters setup rest (length r.driven.chain.stages) v w q h mode r.driven.chain reads.from
       v.origin.inbox reads.reads
-      (subst (λ (xs : List ℕ). QueuesHead xs mode v w) is queues) room.room;
+      (subst (λ (xs : List ℕ). QueuesHead xs mode v w) (is told also) queues) room.room;
 }
 
 -- ---- the stages begin

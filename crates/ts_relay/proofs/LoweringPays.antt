@@ -1,5 +1,6 @@
 -- An event that is handled while a body is passed on: what was done pays for each event that was set.
-use Rattle.std.proofs.Common.{◌≡◌, ◌⊎◌, inl, inr, ℕ, ◌+◌, ◌*◌, ◌≤◌, List, [], length, Bool, true, false, Result, arith, refl, sym, ap, subst, ◌∙◌}
+use Rattle.std.proofs.Common.{◌≡◌, ◌⊎◌, inl, inr, ℕ, ◌+◌, ◌*◌, ◌≤◌, List, [], length, Bool, true, false}
+use Rattle.std.proofs.Common.{Result, arith, refl, sym, ap, subst, ◌∙◌}
 use Rattle.std.proofs.Math.Nat.{add-le-add, le_of_eq, le_refl}
 use Rattle.std.specs.Prelude.{Option, Some, ⊤, if◌then◌else◌}
 use Rattle.std.proofs.lemmas.Bool.{false≢true}
@@ -18,12 +19,14 @@ use Rattle.ts_transform.specs.Driving.{ActsWithin, IsRousedIf, SetsFew, errors_t
 use Rattle.ts_transform.specs.Flow.{ChainState, MustRead, left_to_do}
 use Rattle.ts_transform.specs.Stage.{to_end}
 use Rattle.ts_transform.specs.declared.continuation.StageContinuation.{StageContinuation}
-use Rattle.ts_relay.specs.Duties.{set_leaving, AreBodyEndsRoused, IsBodyCovered, MustSend, SettledAs, SettlesAfter}
+use Rattle.ts_relay.specs.Duties.{set_leaving, AreBodyEndsRoused, IsBodyCovered, MustSend, SettledAs}
+use Rattle.ts_relay.specs.Duties.{SettlesAfter}
 use Rattle.ts_relay.specs.Feeding.{OnGoes}
 use Rattle.ts_relay.specs.Relaying.{StepsChain, step_after}
 use Rattle.ts_relay.specs.declared.relay.TheConstants.{FIRST}
 use Rattle.ts_phases.specs.Lowering.{agains_left, end_room, events_paid, number_left, pump_weight, to_hear}
-use Rattle.ts_relay.specs.LoweringBody.{HasNothingDue, IsOfLines, LowersBody, PaysBody, StaysOfLines, body_work, ended_left, errors_left, left_after, relay_left}
+use Rattle.ts_relay.specs.LoweringBody.{HasNothingDue, IsOfLines, LowersBody, PaysBody, StaysOfLines}
+use Rattle.ts_relay.specs.LoweringBody.{body_work, ended_left, errors_left, left_after, relay_left}
 use Rattle.ts_phases.specs.View.{View}
 use Rattle.ts_relay.specs.declared.last_writes.BodyStep.{BodyStep}
 use Rattle.ts_relay.specs.declared.last_writes.BodyStep.TheVariants as S
@@ -33,7 +36,8 @@ use Rattle.ts_relay.proofs.LoweringBody.{to_ended}
 use Rattle.ts_relay.proofs.LoweringEvents.{paid_fewer, paid_none, paid_sum, spent_none}
 use Rattle.ts_phases.proofs.Lowering.{no_more_same}
 use Rattle.ts_relay.proofs.LoweringRelay.{ended_if, errors_fewer, loses_runs}
-use Rattle.ts_relay.proofs.LoweringStages.{StageDid, WorksOrStays, errors_fall, handled_lines, once_works, stage_did}
+use Rattle.ts_relay.proofs.LoweringStages.{StageDid, WorksOrStays, errors_fall, handled_lines, once_works}
+use Rattle.ts_relay.proofs.LoweringStages.{stage_did}
 use Rattle.ts_phases.proofs.LoweringSteps.{stays_calm}
 use Rattle.ts_relay.proofs.Settling.{goes_after, on_then, settled_has, settled_while, while_on, while_then}
 

@@ -1,6 +1,8 @@
 -- Where each step of an end of a body leads, what a transaction has left to do is less; or the end had
 -- nothing to do.
-use Rattle.std.proofs.Common.{◌≡◌, ◌≢◌, ◌⊎◌, inl, inr, ℕ, ◌+◌, ◌*◌, ◌<◌, ◌≤◌, List, [], ◌∷◌, ◌++◌, length, Bool, true, false, Result, Ok, Err, arith, refl, sym, ap, subst, ◌∙◌, length-append}
+use Rattle.std.proofs.Common.{◌≡◌, ◌≢◌, ◌⊎◌, inl, inr, ℕ, ◌+◌, ◌*◌, ◌<◌, ◌≤◌, List, [], ◌∷◌, ◌++◌, length}
+use Rattle.std.proofs.Common.{Bool, true, false, Result, Ok, Err, arith, refl, sym, ap, subst, ◌∙◌}
+use Rattle.std.proofs.Common.{length-append}
 use Rattle.std.proofs.Math.Nat.{le_of_eq}
 use Rattle.std.proofs.lemmas.List.{append-nil}
 use Rattle.std.specs.Prelude.{Option, Some, None, ⊤, if◌then◌else◌}
@@ -35,12 +37,14 @@ use Rattle.ts_relay.specs.Duties.{MustSend, WhileGoes}
 use Rattle.ts_relay.specs.Feeding.{DrainsOrigin, FeedsTo, GetsPart, OnGoes}
 use Rattle.ts_relay.specs.Inserted.{AddsNoMore, AllAddNoMore}
 use Rattle.ts_phases.specs.Lowering.{agains_left, end_room, if_told, pump_weight, to_hear}
-use Rattle.ts_relay.specs.LoweringBody.{HasNothingDue, IsOfLines, LowersBody, StaysOfLines, body_left, body_work, ended_left, errors_left, left_after, relay_left}
+use Rattle.ts_relay.specs.LoweringBody.{HasNothingDue, IsOfLines, LowersBody, StaysOfLines, body_left}
+use Rattle.ts_relay.specs.LoweringBody.{body_work, ended_left, errors_left, left_after, relay_left}
 use Rattle.ts_relay.specs.declared.last_writes.BodyStep.{BodyStep}
 use Rattle.ts_relay.specs.declared.last_writes.BodyStep.TheVariants as S
 use Rattle.ts_relay.specs.declared.relay.Relay.{Relay}
 use Rattle.ts_phases.proofs.Lowering.{none_fall, same_length, still_hear}
-use Rattle.ts_relay.proofs.LoweringBody.{closes, feeds_on, frames_end, frames_piece, queues_same, reads_on, to_close, to_ended, to_finish, writes_on}
+use Rattle.ts_relay.proofs.LoweringBody.{closes, feeds_on, frames_end, frames_piece, queues_same, reads_on}
+use Rattle.ts_relay.proofs.LoweringBody.{to_close, to_ended, to_finish, writes_on}
 use Rattle.ts_phases.proofs.LoweringSteps.{Calm, client_told, reads_calm, sends_calm, stays_calm}
 
 -- ---- what is left does not depend on who is roused

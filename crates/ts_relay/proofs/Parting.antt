@@ -1,5 +1,6 @@
 -- The parts of a chain, made one by one, are those of the lines that act.
-use Rattle.std.proofs.Common.{◌≡◌, ℕ, List, [], ◌∷◌, ◌++◌, Bool, true, false, cond, refl, sym, ap, subst, ◌∙◌, append_assoc}
+use Rattle.std.proofs.Common.{◌≡◌, ℕ, List, [], ◌∷◌, ◌++◌, Bool, true, false, cond, refl, sym, ap, subst, ◌∙◌}
+use Rattle.std.proofs.Common.{append_assoc}
 use Rattle.std.specs.Prelude.{filter}
 use Rattle.std.proofs.lemmas.List.{append-nil}
 use Rattle.ts_transform.specs.Flow.{compose}

@@ -1,10 +1,11 @@
 -- A body that is passed on: what a write to the client, a read of the origin and a piece that is framed leave
 -- of it.
-use Rattle.std.proofs.Common.{◌≡◌, ℕ, ◌≤◌, List, [], ◌∷◌, ◌++◌, length, take, drop, Bool, true, false, Result, Err, refl, sym, ap, subst, ◌∙◌, append_assoc, inl, inr}
+use Rattle.std.proofs.Common.{◌≡◌, ℕ, ◌≤◌, List, [], ◌∷◌, ◌++◌, length, take, Bool, true, false, Result}
+use Rattle.std.proofs.Common.{Err, refl, sym, ap, subst, ◌∙◌, append_assoc, inl, inr}
 use Rattle.std.specs.Prelude.{flat_map, ⊤}
 use Rattle.std.specs.Bool.{OnTrue}
 use Rattle.std.proofs.lemmas.Bool.{OnTrue_from, false≢true, true≢false}
-use Rattle.std.proofs.lemmas.List.{append-nil, map-append, take-append-drop, take_at}
+use Rattle.std.proofs.lemmas.List.{append-nil, map-append}
 use Rattle.std.proofs.lemmas.List.Elements.{All-append, All-cons, All-nil}
 use Rattle.std.proofs.lemmas.Grind.{flat_map-append}
 use Rattle.ts_config.specs.declared.setup.Setup.{Setup}
@@ -27,7 +28,8 @@ use Rattle.ts_wire.specs.Body.{BodyOf}
 use Rattle.ts_wire.specs.Place.{Place, state_of}
 use Rattle.ts_wire.proofs.PlaceBody.{place_body}
 use Rattle.ts_block.specs.Relayed.{framing_of}
-use Rattle.ts_block.specs.Block.{BodySays, EndsWith, IsBlock, body_lines, ended, passed_on, relayed_block, relayed_head, request_text}
+use Rattle.ts_block.specs.Block.{BodySays, EndsWith, IsBlock, body_lines, ended, passed_on, relayed_block}
+use Rattle.ts_block.specs.Block.{relayed_head, request_text}
 use Rattle.ts_block.specs.Heads.{FinalHead}
 use Rattle.ts_phases.specs.View.{LinkSide, View}
 use Rattle.ts_phases.specs.Moving.{SideReads, SideWrites, WritesClient}

@@ -255,7 +255,9 @@ module _ (setup : Setup) (R S : Type 0) (to : R → S) (from : S → R) where
   phase_fact v (P.ReadResponse q) h = awaits v q h
   phase_fact v (P.ReadResponseHdr q r) h = relays v q r h
   phase_fact v (P.ResponseTransform q r) h = relays v q r h
+  phase_fact v (P.RuleResponse q r place fields) h = (relays v q r h.0, h.1)
   phase_fact v (P.SendResponseHdr a) h = ready v a h
+  phase_fact v (P.RuleAnswer a place fields) h = (ready v a h.0, h.1)
   phase_fact v (P.Sending a) h = sends v a h
   phase_fact v (P.TxnClose end) h = end_fact v end h
   phase_fact v (P.Ended end) h = end_fact v end h

@@ -26,6 +26,7 @@ module _ {C O : Type 0} (client : link.Ghosts C) (origin : link.Ghosts O) (both 
     number = refl;
     setup = refl;
     plugins_at = refl;
+    hooks = refl;
     client = record { source = refl; name = refl; plan = refl };
     origin = record { source = refl; name = refl; plan = refl };
     client_base = refl;

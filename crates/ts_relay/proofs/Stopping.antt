@@ -1,5 +1,6 @@
 -- A body that is read on: it goes on, is bad, is cut, or the origin's link fails.
-use Rattle.std.proofs.Common.{◌≡◌, ◌≢◌, ℕ, List, [], ◌++◌, Bool, true, false, refl, sym, ap, subst, ◌∙◌, append_assoc}
+use Rattle.std.proofs.Common.{◌≡◌, ◌≢◌, ℕ, List, [], ◌++◌, Bool, true, false, refl, sym, ap, subst, ◌∙◌}
+use Rattle.std.proofs.Common.{append_assoc}
 use Rattle.std.proofs.lemmas.Bool.{OnTrue_from, false≢true, true≢false}
 use Rattle.std.proofs.lemmas.List.{append-nil}
 use Rattle.ts_config.specs.declared.setup.Setup.{Setup}
@@ -16,7 +17,8 @@ use Rattle.ts_wire.specs.Body.{IsCutShort}
 use Rattle.ts_wire.specs.Place.{GoesOn, Place, state_of}
 use Rattle.ts_block.specs.Relayed.{framing_of, mode_of}
 use Rattle.ts_block.specs.Heads.{FinalHead}
-use Rattle.ts_block.specs.Block.{BodySays, bad, body_lines, cut, framing_for, relayed_block, relayed_head, request_text}
+use Rattle.ts_block.specs.Block.{BodySays, bad, body_lines, cut, framing_for, relayed_block, relayed_head}
+use Rattle.ts_block.specs.Block.{request_text}
 use Rattle.ts_phases.specs.View.{HasCount, LinkSide, View}
 use Rattle.ts_phases.specs.RelayMoves.{ReadsOrigin}
 use Rattle.ts_phases.specs.Facts as facts
@@ -29,7 +31,8 @@ use Rattle.ts_relay.specs.declared.last_writes.BodyStep.{BodyStep}
 use Rattle.ts_relay.specs.declared.last_writes.BodyStep.TheVariants as S
 use Rattle.ts_phases.specs.declared.phase.Request.{Request}
 use Rattle.ts_phases.proofs.OneSide.{read_failed}
-use Rattle.ts_relay.proofs.Relaying.{body_of, flow_given, front_by, reads_on, relayed_is, relays_lacks, relays_relayed}
+use Rattle.ts_relay.proofs.Relaying.{body_of, flow_given, front_by, reads_on, relayed_is, relays_lacks}
+use Rattle.ts_relay.proofs.Relaying.{relays_relayed}
 use Rattle.ts_phases.proofs.Responding.{served_as}
 use Rattle.ts_phases.proofs.Uploading.{took_request}
 

@@ -24,14 +24,16 @@ use Rattle.ts_relay.specs.declared.last_writes.BodyStep.{BodyStep}
 use Rattle.ts_relay.specs.declared.last_writes.BodyStep.TheVariants as S
 use Rattle.ts_relay.specs.declared.relay.Relay.{Relay}
 
--- the transaction closes for a fault of the client's link
+-- the transaction closes for a fault of the client's link, or what waits is still written behind one
 abbrev pub is_client_fault : BodyStep → Bool
 is_client_fault (S.Closes E.ClientFault) = true
+is_client_fault (S.Finishes E.ClientFault) = true
 is_client_fault _ = false
 
--- what waits is still written, behind a fault of the origin's link
+-- the same for a fault of the origin's link
 abbrev pub is_origin_fault : BodyStep → Bool
 is_origin_fault (S.Finishes E.OriginFault) = true
+is_origin_fault (S.Closes E.OriginFault) = true
 is_origin_fault _ = false
 
 -- the link was not ready

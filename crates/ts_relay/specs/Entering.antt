@@ -26,7 +26,6 @@ use Rattle.ts_wire.specs.Place.{IsFed, Place}
 use Rattle.ts_block.specs.Relayed.{framing_of}
 use Rattle.ts_block.specs.Block.{body_lines}
 use Rattle.ts_phases.specs.View.{OriginRefuses, View, view_of}
-use Rattle.ts_phases.specs.Facts.{Relays}
 use Rattle.ts_phases.specs.Holding.{IfTold}
 use Rattle.ts_phases.specs.Ends.{EndFact}
 use Rattle.ts_relay.specs.Duties.{relay_seats}
@@ -105,11 +104,6 @@ pub record BeginsRelay {P : Type 0} (step : BodyStep) (r : Relay P) (a b : Conte
   pub ordered : EndsInOrder r.driven.chain.given r.driven.chain.stages
 
 module _ {C O : Type 0} (client : link.Ghosts C) (origin : link.Ghosts O) (both : upstream.Ghosts O C) where
-  -- the head of the response that is passed on is known
-  abbrev pub HeadHolds : Core C O → Request → ResponseHead → Type 0
-  HeadHolds t q h = IfTold client.tells origin.tells
-      (Relays (arc_value t.setup) (OriginRefuses client both t) (view_of client origin t) q h)
-
   -- memory lacked
   abbrev pub LacksAfter : Core C O → Core C O → Type 0
   LacksAfter old new = IfTold client.tells origin.tells

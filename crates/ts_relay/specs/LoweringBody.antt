@@ -14,14 +14,12 @@ use Rattle.ts_relay.specs.BodyLinks.{HoldsLittle}
 use Rattle.ts_relay.specs.Duties.{set_leaving, IsBodyCovered, WhileGoes}
 use Rattle.ts_phases.specs.Holding.{IfTold}
 use Rattle.ts_relay.specs.Inserted.{AllAddNoMore}
-use Rattle.ts_phases.specs.Lowering.{agains_left, chain_room, end_room, if_told, number_left, pump_weight, to_hear, work_left}
+use Rattle.ts_phases.specs.Lowering.{agains_left, chain_room, end_room, enter_left, if_told, number_left}
+use Rattle.ts_phases.specs.Lowering.{pump_weight, to_hear}
 use Rattle.ts_phases.specs.View.{View}
 use Rattle.ts_relay.specs.declared.last_writes.BodyStep.{BodyStep}
 use Rattle.ts_relay.specs.declared.last_writes.BodyStep.TheVariants as S
-use Rattle.ts_phases.specs.declared.phase.Phase.TheVariants as phase
-use Rattle.ts_phases.specs.declared.phase.Request.{Request}
 use Rattle.ts_relay.specs.declared.relay.Relay.{Relay}
-use Rattle.ts_wire.specs.declared.heads.ResponseHead.{ResponseHead}
 
 -- A chain of the configuration's: it has no more stages than that has transform lines, and each of them adds
 -- no more.
@@ -88,11 +86,11 @@ pub record HasChainRoom {P : Type 0} (setup : Setup) (rest : P → List ℕ → 
 -- The head of a response was queued whose body is passed on: where both links tell, little of the body is
 -- held, and what is left is less.
 pub record LowersEntering {P : Type 0} (ctells otells : Bool) (setup : Setup) (rest : P → List ℕ → List ℕ)
-    (q : Request) (h : ResponseHead) (v w : View) (r : Relay P) : Type 0 where
+    (v w : View) (r : Relay P) : Type 0 where
   pub lines : IsOfLines setup rest r.driven.chain
   pub little : IfTold ctells otells (HoldsLittle w r.driven.chain)
   pub falls : IfTold ctells otells
-      (Fewer (work_left setup (Some 0) v (phase.ResponseTransform q h)) (unbegun_left setup rest w r))
+      (Fewer (enter_left setup v) (unbegun_left setup rest w r))
 
 -- Its continuations were made: the front of the chain is as it was, and what is left did not rise.
 pub record BeginsLower {P : Type 0} (setup : Setup) (rest : P → List ℕ → List ℕ) (step : BodyStep) (v : View)

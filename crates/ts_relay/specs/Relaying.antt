@@ -1,7 +1,8 @@
 -- What holds of a transaction that passes a body on, between two events, for links that tell: what was sent,
 -- followed by what the chain still gives, is the lines' work on what was read, followed by what still comes
 -- (Developer's Guide, "Transformations"; RFC 9112, sections 6.3 and 8).
-use Rattle.std.specs.Prelude.{◌≡◌, ◌≢◌, ℕ, ◌+◌, ◌≤◌, ◌⊎◌, ◌++◌, List, [], Bool, true, false, Option, Some, Result, Ok, Err, ⊤}
+use Rattle.std.specs.Prelude.{◌≡◌, ◌≢◌, ℕ, ◌+◌, ◌≤◌, ◌⊎◌, ◌++◌, List, [], Bool, true, false, Option, Some}
+use Rattle.std.specs.Prelude.{Result, Ok, Err, ⊤}
 use Rattle.std.specs.Arc.{arc_value}
 use Rattle.std.specs.Bool.{OnTrue}
 use Rattle.ts_journal.specs.declared.entry.Pending.{Pending}

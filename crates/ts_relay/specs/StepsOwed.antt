@@ -13,8 +13,6 @@ use Rattle.ts_transform.specs.declared.continuation.StageContinuation.{StageCont
 use Rattle.ts_phases.specs.Holding.{IfTold, StepKeeps}
 use Rattle.ts_phases.specs.View.{view_of}
 use Rattle.ts_phases.specs.declared.parts.Core.{Core}
-use Rattle.ts_phases.specs.declared.phase.Request.{Request}
-use Rattle.ts_wire.specs.declared.heads.ResponseHead.{ResponseHead}
 use Rattle.ts_relay.specs.BodyLinks.{HandlesLinks, ReadsLinks, WritesLinks}
 use Rattle.ts_relay.specs.Duties.{HandlesBody}
 use Rattle.ts_relay.specs.LoweringBody.{LowersBody, LowersEntering, PaysBody, finish_left, rest_after}
@@ -61,8 +59,8 @@ module _ {C O P L : Type 0} (client : link.Ghosts C) (origin : link.Ghosts O) (s
       step (view_of client origin old) (view_of client origin new) main r s a b
 
   -- the head of a response was queued whose body is passed on
-  abbrev pub EntryLowers : Request → ResponseHead → Relay P → Type 0
-  EntryLowers q h r = LowersEntering client.tells origin.tells (arc_value old.setup) stage.rest q h
+  abbrev pub EntryLowers : Relay P → Type 0
+  EntryLowers r = LowersEntering client.tells origin.tells (arc_value old.setup) stage.rest
       (view_of client origin old) (view_of client origin new) r
 
 -- one of the last writes lowers what is left

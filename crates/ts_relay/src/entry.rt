@@ -6,24 +6,26 @@ ghost use Rattle.ts_wire.specs.Place.{state_of};
 ghost use Rattle.ts_relay.specs.Feeding.{OnGoes};
 ghost use Rattle.ts_transform.specs.Driving.{SetsOnly};
 ghost use Rattle.ts_relay.specs.Relaying.{IsNotSpent, IsOfRoleFrom, RelayLeads, StepsChain, set_by_stage};
-ghost use Rattle.ts_relay.specs.Entering.{ActsAsLines, BeginsChain, BeginsRelay, EnterHolds, EntersAfter, GetsStart, HeadHolds, IsUnbegun, LacksAfter, CallsNeither};
+ghost use Rattle.ts_relay.specs.Entering.{ActsAsLines, BeginsChain, BeginsRelay, EnterHolds, EntersAfter};
+ghost use Rattle.ts_relay.specs.Entering.{GetsStart, IsUnbegun, LacksAfter, CallsNeither};
 ghost use Rattle.ts_relay.specs.LoweringBody.{BeginsLower};
 ghost use Rattle.ts_relay.specs.StepsOwed.{EntryLowers};
 ghost use Rattle.ts_phases.specs.Holding.{StepKeeps};
+ghost use Rattle.ts_phases.specs.Leading.{HeadHolds};
 ghost use Rattle.ts_phases.specs.View.{view_of};
 
 use crate::feed::close_input;
 use crate::last_writes::BodyStep;
 use crate::making::make_relay;
 use crate::relay::{FIRST, READER, Relay};
-use ts_block::{framing_for, mode_of, relayed_head};
+use ts_block::{framing_for, mode_of, relayed_with};
 use ts_config::TransformLine;
 use ts_group::Cx;
 use ts_link::{Link, NoMemory};
 use ts_phases::{Core, Request};
 use ts_transform::{DrivenChain, Loss, Transform, make_end};
 use ts_upstream::Upstream;
-use ts_wire::{BodyState, ResponseHead};
+use ts_wire::{BodyState, Fields, ResponseHead};
 
 // Makes a continuation for each stage of a chain, and rouses the first if it must work.
 fn start_chain<P: Transform + Drop>(driven: &mut DrivenChain<P>, cx: &mut Cx) -> BodyStep
@@ -85,29 +87,30 @@ fn begin_relay<P: Transform + Drop>(relay: &mut Relay<P>, cx: &mut Cx) -> BodySt
     begin_input(relay, cx)
 }
 
-/// Queues the client's head of a response that is passed on, and makes what its body goes through.
+/// Queues the client's head of a response that is passed on, with the fields after its plugins, and makes
+/// what its body goes through.
 #[tactic(auto, using(crate::proofs::Entered::quiet_none, crate::proofs::Entered::quiet_head))]
 pub fn queue_relay<C: Link, O: Upstream<C>, P: Transform<Line = TransformLine> + Drop>(
     core: &mut Core<C, O>,
     request: &Request,
     head: &ResponseHead,
+    fields: &Fields,
 ) -> Result<Relay<P>, NoMemory>
     requires acts { ActsAsLines P.whole }
-    requires fact { HeadHolds C.Link O.Link O.Upstream.own core.old request.now head.now }
+    requires fact { HeadHolds C.Link O.Link O.Upstream.own core.old request.now head.now fields.now }
     ensures ok { IfOk result
         (λ r. EntersAfter C.Link O.Link O.Upstream.own P.Transform core.old core.new r) }
     ensures err { OnErr result (LacksAfter C.Link O.Link O.Upstream.own core.old core.new) }
     ensures fresh { IfOk result (λ r. IsUnbegun r
         × (r.driven.chain.given ≡ false) × OnlyFirstWorks r.driven.chain) }
     ensures quiet { CallsNeither (view_of C.Link O.Link core.old) (view_of C.Link O.Link core.new) }
-    ensures lowers { IfOk result (EntryLowers C.Link O.Link P.Transform core.old core.new request.now
-        head.now) }
+    ensures lowers { IfOk result (EntryLowers C.Link O.Link P.Transform core.old core.new) }
     ensures keeps { StepKeeps C.Link O.Link O.Upstream.own core.old core.new }
 {
     let Ok(made) = make_relay(core.alloc, &core.setup, &request.head, head) else {
         return Err(NoMemory);
     };
-    let Ok(text) = relayed_head(core.alloc, &core.setup, &request.head, head) else {
+    let Ok(text) = relayed_with(core.alloc, &core.setup, &request.head, head, fields) else {
         return Err(NoMemory);
     };
     let mode = mode_of(framing_for(&core.setup, &request.head, head));
