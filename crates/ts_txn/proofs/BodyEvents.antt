@@ -27,6 +27,7 @@ use Rattle.ts_txn.specs.LoweringCourse.{PaysEvents}
 use Rattle.ts_txn.specs.World.{IsSoundOn, most_set}
 use Rattle.ts_txn.specs.declared.course.Course.{Course}
 use Rattle.ts_txn.specs.declared.course.Course.TheVariants as K
+use Rattle.ts_txn.proofs.Causes.{body_cause}
 use Rattle.ts_txn.proofs.CourseCalls.{stands_handled}
 use Rattle.ts_txn.proofs.Coursing.{after_led, led_on}
 use Rattle.ts_txn.proofs.Handling.{little_after, sound_led}
@@ -54,6 +55,7 @@ module _ {C O Q : Type 0} (client : link.Ghosts C) (origin : link.Ghosts O) (bot
   owes_here : EventOwes client origin both stage core new a b role main u (K.Relaying r) result
       W.Nothing
   owes_here = record {
+    rests = tt;
     keeps =
         let v = view_of client origin core in
         let w = view_of client origin new in
@@ -64,6 +66,9 @@ module _ {C O Q : Type 0} (client : link.Ghosts C) (origin : link.Ghosts O) (bot
         (lines_after (arc_value core.setup) stage.rest step r s pays.lines called.sound.stands.lines)
         (λ told also. little_after v w step r s handles.links.minds.holds
         (called.sound.stands.little told also))
+        (body_cause client origin both core new handles.keeps called.sound.stands.causes client.tells
+        origin.tells r.driven.chain s.driven.chain s step handles.links.client_late handles.links.origin_late
+        handles.links.minds)
         (after_led step (course_after s step) result left.led)
         (left.covered w (stands_handled _ v main a role event called step w mid r s m called.sound.covered
         handles.body));
@@ -117,7 +122,8 @@ module _ {C O Q : Type 0} (client : link.Ghosts C) (origin : link.Ghosts O) (bot
 
   pub relay_owes : EventOwes client origin both stage core new a b role main u course result
       W.Nothing
-  relay_owes = subst (λ y. EventOwes client origin both stage core new a b role main u y result W.Nothing) (sym is)
+  relay_owes =
+      subst (λ y. EventOwes client origin both stage core new a b role main u y result W.Nothing) (sym is)
       (owes_here client origin both stage core new r s main mid u role event a m b step result called_here
       leads handles pays left)
 

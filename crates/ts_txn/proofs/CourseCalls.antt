@@ -1,7 +1,8 @@
 -- The duties of a transaction when an event is handled, wherever it is on its course; and that none is left
 -- where nothing is
 -- pending, unless the event numbers are used up.
-use Rattle.std.proofs.Common.{◌≡◌, ◌≢◌, ◌≤◌, ◌⊎◌, inl, inr, ℕ, List, [], ◌∷◌, true, false, Option, Some, None, eqb, arith, refl, sym, ap, subst, ◌∙◌}
+use Rattle.std.proofs.Common.{◌≡◌, ◌≢◌, ◌≤◌, ◌⊎◌, inl, inr, ℕ, List, [], ◌∷◌, true, false, Option, Some, None}
+use Rattle.std.proofs.Common.{eqb, arith, refl, sym, ap, subst, ◌∙◌}
 use Rattle.std.proofs.lemmas.Bool.Decides.{eqb_tells}
 use Rattle.std.proofs.lemmas.Bool.{true≢false}
 use Rattle.ts_journal.specs.declared.entry.TheConstants.{GREATEST}
@@ -17,7 +18,9 @@ use Rattle.ts_transform.specs.declared.continuation.StageContinuation.{StageCont
 use Rattle.ts_transform.specs.Driving.{IsOfStageIf, IsRousedIf, unroused, works_at}
 use Rattle.ts_transform.specs.Seats.{AllSeated, HasKey}
 use Rattle.ts_transform.proofs.Handled.{handled_by, quiet_if, stays_if, unroused_if}
-use Rattle.ts_txn.specs.CourseCover.{HasNextEvent, BodyHasEvents, HasEventsOn, HasStepDone, IsAlone, IsCoveredNow, IsCoveredOn, PassesNoBody, ProceedsOn, StandsBehind, course_seats}
+use Rattle.ts_txn.specs.CourseCover.{HasNextEvent, BodyHasEvents, HasEventsOn, HasStepDone, IsAlone}
+use Rattle.ts_txn.specs.CourseCover.{IsCoveredNow, IsCoveredOn, PassesNoBody, ProceedsOn, StandsBehind}
+use Rattle.ts_txn.specs.CourseCover.{course_seats}
 use Rattle.ts_phases.specs.Cover.{Proceeds, is_fresh}
 use Rattle.ts_relay.specs.Duties.{BeginsBody, HandlesBody, body_seats}
 use Rattle.ts_txn.specs.Making.{end_of_phase}

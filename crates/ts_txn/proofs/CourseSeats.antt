@@ -1,6 +1,7 @@
 -- Whose events are pending of a transaction on its course, where its next event is set and where a body is
 -- left.
-use Rattle.std.proofs.Common.{◌≡◌, ◌≤◌, ◌++◌, ◌⊎◌, inl, inr, ℕ, List, [], ◌∷◌, true, false, Option, Some, None, arith, refl, sym, ap, subst, ◌∙◌}
+use Rattle.std.proofs.Common.{◌≡◌, ◌≤◌, ◌++◌, ◌⊎◌, inl, inr, ℕ, List, [], ◌∷◌, true, false, Option, Some}
+use Rattle.std.proofs.Common.{None, arith, refl, sym, ap, subst, ◌∙◌}
 use Rattle.ts_journal.specs.declared.entry.TheConstants.{GREATEST}
 use Rattle.ts_journal.specs.declared.entry.ContKey.{ContKey}
 use Rattle.ts_journal.specs.declared.entry.Pending.{Pending}
@@ -12,13 +13,16 @@ use Rattle.ts_hooks.specs.declared.txn_end.TxnEnd.TheVariants as E
 use Rattle.ts_transform.specs.Carrying.{IsJoined}
 use Rattle.ts_transform.specs.declared.continuation.StageContinuation.{StageContinuation}
 use Rattle.ts_transform.specs.Destroying.{Clears}
-use Rattle.ts_transform.specs.Driving.{ActsWithin, IsOfStageIf, IsRousedIf, Keeps, KeepsStage, SetsOnly, unroused}
+use Rattle.ts_transform.specs.Driving.{ActsWithin, IsOfStageIf, IsRousedIf, Keeps, KeepsStage, SetsOnly}
+use Rattle.ts_transform.specs.Driving.{unroused}
 use Rattle.ts_transform.specs.Seats.{AllSeated, HasKey, KeepsSeated}
 use Rattle.ts_transform.proofs.Joined.{named_of}
 use Rattle.ts_transform.proofs.Seating.{key_same, seated_set}
 use Rattle.ts_transform.proofs.Seats.{seated_cleared}
 use Rattle.ts_transform.proofs.Setting.{of_stages_named}
-use Rattle.ts_txn.specs.CourseCover.{HasNextEvent, HasNextEventOr, IsOfMain, CoversAlone, CoversLed, GoesAlone, HasRousedNext, HasStepDone, IsAlone, IsCoveredNow, StandsBehind, StaysWhereNamed, StaysWhereSpent}
+use Rattle.ts_txn.specs.CourseCover.{HasNextEvent, HasNextEventOr, IsOfMain, CoversAlone, CoversLed}
+use Rattle.ts_txn.specs.CourseCover.{GoesAlone, HasRousedNext, HasStepDone, IsAlone, IsCoveredNow}
+use Rattle.ts_txn.specs.CourseCover.{StandsBehind, StaysWhereNamed, StaysWhereSpent}
 use Rattle.ts_phases.specs.Cover.{is_ended}
 use Rattle.ts_relay.specs.Duties.{RunsOr, UnlessLacking, relay_seats}
 use Rattle.ts_phases.specs.View.{View}

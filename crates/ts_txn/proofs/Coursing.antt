@@ -12,7 +12,7 @@ use Rattle.ts_relay.specs.Entering.{EntersBody}
 use Rattle.ts_phases.specs.View.{OriginRefuses, View, refuses_if, view_of}
 use Rattle.ts_txn.specs.Course.{CourseFact, course_after, finish_after}
 use Rattle.ts_txn.specs.CourseCover.{LedAfter, LedBehind, StaysOnOrLacks}
-use Rattle.ts_phases.specs.Ends.{EndFact}
+use Rattle.ts_phases.specs.Ends.{AnyEnd, EndFact}
 use Rattle.ts_relay.specs.Finishing.{IsFinishing, LeadsBody}
 use Rattle.ts_phases.specs.Holding.{StepKeeps}
 use Rattle.ts_relay.specs.Relaying.{RelaysBody}
@@ -52,6 +52,11 @@ course_lacks setup refuses rest v (K.Phased p) h = lacks_memory setup refuses v 
 course_lacks setup refuses rest v (K.Relaying r) h = relays_lacks setup refuses rest v r.driven.chain r.body h
 course_lacks setup refuses rest v (K.Finishing end) h = lacks_memory setup refuses v
     (finishing_any setup refuses v end h)
+
+-- what holds whatever the end, wherever it is
+pub course_any : (setup : Setup) (refuses : Type 0) {Q : Type 0} (rest : Q → List ℕ → List ℕ) (v : View)
+    (course : Course Q) → CourseFact setup refuses rest v course → AnyEnd setup refuses v
+course_any setup refuses rest v course h = (course_lacks setup refuses rest v course h).any
 
 -- and so it may where its next event is set
 pub stays_on : (setup : Setup) (refuses : Type 0) {Q : Type 0} (rest : Q → List ℕ → List ℕ) (v : View)

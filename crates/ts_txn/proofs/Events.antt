@@ -1,5 +1,8 @@
 -- What one event leads to: a step of its phase, a part of a body, one of the last writes, or nothing.
-use Rattle.std.proofs.Common.{◌≡◌, ◌⊎◌, inl, inr, ℕ, [], ◌∷◌, true, false, Option, None, refl, sym, ap, subst, ◌∙◌}
+use Rattle.std.proofs.Common.{◌≡◌, ◌⊎◌, inl, inr, ℕ, List, [], ◌∷◌, true, false, Option, None, refl, sym, ap}
+use Rattle.std.proofs.Common.{subst, ◌∙◌}
+use Rattle.std.specs.Arc.{arc_value}
+use Rattle.ts_config.specs.declared.fields.PluginLine.{PluginLine}
 use Rattle.ts_hooks.specs.declared.txn_end.TxnEnd.{TxnEnd}
 use Rattle.ts_hooks.specs.declared.txn_end.TxnEnd.TheVariants as E
 use Rattle.ts_group.specs.Context.{Context}
@@ -15,13 +18,16 @@ use Rattle.std.specs.Prelude.{⊤}
 use Rattle.ts_relay.specs.BodyLinks.{BeginsInTime}
 use Rattle.ts_txn.specs.Course.{course_after, finish_after}
 use Rattle.ts_phases.specs.Cover.{Proceeds, StepLeads, StepsTo, is_ended, is_fresh}
-use Rattle.ts_txn.specs.CourseCover.{is_fresh_on, IsCoveredNow, LedAfter, LedBehind, PassesNoBody, StaysOnOrLacks}
+use Rattle.ts_txn.specs.CourseCover.{is_fresh_on, IsCoveredNow, LedAfter, LedBehind, PassesNoBody}
+use Rattle.ts_txn.specs.CourseCover.{StaysOnOrLacks}
 use Rattle.ts_relay.specs.Duties.{set_leaving}
-use Rattle.ts_txn.specs.Driven.{BeginsIn, ClosesAs, DueTo, HandlesEvent, HandlesOn, MindsCourse, TakesEvent, TakesOn, TakesStep, WritesOr, delay_of}
+use Rattle.ts_txn.specs.Driven.{BeginsIn, ClosesAs, DueTo, HandlesEvent, HandlesOn, MindsCourse, StaysOrAsks}
+use Rattle.ts_txn.specs.Driven.{TakesEvent, TakesOn, TakesStep, WritesOr, delay_of}
 use Rattle.ts_relay.specs.Entering.{CallsNeither}
-use Rattle.ts_phases.specs.Steps.{LeavesClient, LeavesClientIn, LeavesOrigin, LeavesOriginIn, LeavesSides, MindsLinksIn, WaitsRightly}
+use Rattle.ts_phases.specs.Steps.{LeavesClient, LeavesClientIn, LeavesOrigin, LeavesOriginIn, LeavesSides}
+use Rattle.ts_phases.specs.Steps.{MindsLinksIn, WaitsRightly}
 use Rattle.ts_phases.specs.Holding.{IfTold, StepKeeps}
-use Rattle.ts_phases.specs.Owed.{MayFollow}
+use Rattle.ts_phases.specs.Owed.{MayAsk, MayEnter, MayFollow}
 use Rattle.ts_phases.specs.View.{LinkSide, View, view_of}
 use Rattle.ts_transform.proofs.Joined.{named_unroused}
 use Rattle.ts_txn.specs.declared.course.Course.{Course}
@@ -35,7 +41,9 @@ use Rattle.ts_phases.specs.declared.phase.Next.{Next}
 use Rattle.ts_phases.specs.declared.phase.Next.TheVariants as N
 use Rattle.ts_phases.specs.declared.phase.Phase.{Phase}
 use Rattle.ts_phases.specs.declared.phase.Phase.TheVariants as P
+use Rattle.ts_phases.specs.declared.phase.Request.{Request}
 use Rattle.ts_phases.specs.declared.phase.Step.{Step}
+use Rattle.ts_wire.specs.declared.heads.ResponseHead.{ResponseHead}
 use Rattle.ts_relay.specs.declared.relay.Relay.{Relay}
 use Rattle.ts_txn.proofs.Coursing.{behind_led}
 use Rattle.ts_txn.proofs.Seating.{due_rests}
@@ -43,6 +51,7 @@ use Rattle.ts_txn.proofs.Seating.{due_rests}
 module _ (v w : View) where
   leaves_in : (p : Phase) → LeavesOrigin v w → LeavesOriginIn p v w
   leaves_in (P.SendRequestHdr q) leaves = tt
+  leaves_in (P.RuleRequest q place fields) leaves = tt
   leaves_in (P.SendRequest q) leaves = tt
   leaves_in (P.Upload q) leaves = tt
   leaves_in _ leaves = leaves
@@ -52,27 +61,44 @@ module _ (v w : View) where
   spares_in (P.Upload q) spares = tt
   spares_in _ spares = spares
 
-  -- nothing closes where a body begins
-  begin_closes : {Q : Type 0} (p : Phase) (new : Course Q) → BeginsIn p v w → ClosesAs p new
-  begin_closes (P.TxnClose end) new begins = absurd begins
-  begin_closes _ new begins = tt
-
   -- a body begins
-  leaves_begun : (p : Phase) → BeginsIn p v w → LeavesSides p v w
-  leaves_begun p begins = record {
+  leaves_begun : (p : Phase) → CallsNeither v w → LeavesSides p v w
+  leaves_begun p calls = record {
     origin = leaves_in p (record {
-      taken = ap (λ (s : LinkSide). s.look.taken) (calls p begins).origin;
-      waits = ap (λ (s : LinkSide). s.outbox) (calls p begins).origin;
+      taken = ap (λ (s : LinkSide). s.look.taken) calls.origin;
+      waits = ap (λ (s : LinkSide). s.outbox) calls.origin;
     });
-    client = spares_in p (record {
-      given = ap (λ (l : Look). l.given) (calls p begins).client;
-      held = (calls p begins).held;
-    });
+    client = spares_in p (record { given = ap (λ (l : Look). l.given) calls.client; held = calls.held });
   }
-    where
-      calls : (p : Phase) → BeginsIn p v w → CallsNeither v w
-      calls (P.ResponseTransform q h) begins = begins
-      calls _ begins = absurd begins
+
+-- nothing is done
+leaves_same : (p : Phase) (v : View) → LeavesSides p v v
+leaves_same p v = record {
+  origin = leaves_in v v p (record { taken = refl; waits = refl });
+  client = spares_in v v p (record { given = refl; held = refl });
+}
+
+-- nothing closes where a body begins, or where a plugin is asked
+enter_closes : {Q : Type 0} (lines : List PluginLine) (p : Phase) (q : Request) (h : ResponseHead)
+    (new : Course Q) → MayEnter lines p q h → ClosesAs p new
+enter_closes lines (P.TxnClose end) q h new enters = absurd enters
+enter_closes lines _ q h new enters = tt
+
+ask_closes : {Q : Type 0} (p next : Phase) (new : Course Q) → MayAsk p next → ClosesAs p new
+ask_closes (P.TxnClose end) next new asks = absurd asks
+ask_closes _ next new asks = tt
+
+-- a phase in which a plugin is asked is one of a transaction that was started
+ask_started : (p next : Phase) → MayAsk p next → is_fresh next ≡ false
+ask_started (P.OsDns q place) P.Fresh asks = absurd asks
+ask_started (P.SendRequestHdr q) P.Fresh asks = absurd asks
+ask_started (P.RuleRequest q place fields) P.Fresh asks = absurd asks
+ask_started (P.ResponseTransform q h) P.Fresh asks = absurd asks
+ask_started (P.RuleResponse q h place fields) P.Fresh asks = absurd asks
+ask_started (P.SendResponseHdr a) P.Fresh asks = absurd asks
+ask_started (P.RuleAnswer a place fields) P.Fresh asks = absurd asks
+ask_started _ P.Fresh asks = absurd asks
+ask_started p _ asks = refl
 
 -- a step leads to no phase of one that was not started
 proceeds_started : (p : Phase) → Proceeds p → is_fresh p ≡ false
@@ -84,7 +110,7 @@ ended_started : (p : Phase) → is_ended p ≡ true → is_fresh p ≡ false
 ended_started P.Fresh ended = cc
 ended_started _ ended = refl
 
-steps_started : (next : Next) (p : Phase) → StepsTo next p → is_fresh p ≡ false
+pub steps_started : (next : Next) (p : Phase) → StepsTo next p → is_fresh p ≡ false
 steps_started N.Done p ended = ended_started p ended
 steps_started _ p on = proceeds_started p on
 
@@ -96,11 +122,12 @@ stays_started led new started (inr lacks) = ap is_fresh_on lacks
 
 -- where nothing is done a core stays the same, and a transaction that closes goes on to close
 module _ {C O : Type 0} (client : link.Ghosts C) (origin : link.Ghosts O) (both : upstream.Ghosts O C) where
-  same_core : (s : Core C O) → StepKeeps client origin both s s
+  pub same_core : (s : Core C O) → StepKeeps client origin both s s
   same_core s = record {
     number = refl;
     setup = refl;
     plugins_at = refl;
+    hooks = refl;
     client = record { source = refl; name = refl; plan = refl };
     origin = record { source = refl; name = refl; plan = refl };
     client_base = refl;
@@ -117,7 +144,7 @@ closes_same Q _ = tt
 module _ {C O Q : Type 0} (client : link.Ghosts C) (origin : link.Ghosts O) (both : upstream.Ghosts O C) where
   -- a step of a phase was made, and led to the phase that it answered, or to the end for want of memory
   pub takes_step : (s t : Core C O) (p : Phase) (new : Course Q) (made : Step) → StepLeads made
-      → MayFollow p made.phase → MindsLinksIn client origin both s t p made
+      → MayFollow (arc_value s.setup).plugins.items p made.phase → MindsLinksIn client origin both s t p made
       → WaitsRightly made.next (view_of client origin s) (view_of client origin t)
       → IfTold client.tells origin.tells (LeavesSides p (view_of client origin s)
       (view_of client origin t))
@@ -133,7 +160,7 @@ module _ {C O Q : Type 0} (client : link.Ghosts C) (origin : link.Ghosts O) (bot
   }
     where
       by_lead : StaysOnOrLacks (K.Phased made.phase) new
-          → (new ≡ K.Phased (P.Ended E.NoMemory)) ⊎ ((t ≡ s) × (new ≡ K.Phased p)) ⊎ MindsCourse client origin
+          → (new ≡ K.Phased (P.Ended E.NoMemory)) ⊎ ((t ≡ s) × StaysOrAsks p new) ⊎ MindsCourse client origin
           both s t p made.next new
       by_lead (inl same) = inr (inr (subst (MindsCourse client origin both s t p
           made.next) (sym same) (follows, minds)))
@@ -154,23 +181,26 @@ module _ {C O Q : Type 0} (client : link.Ghosts C) (origin : link.Ghosts O) (bot
   begin_led r _ new goes led = absurd goes
 
   -- a body was begun, or memory lacked for that
-  pub takes_begin : (s t : Core C O) (p : Phase) (new : Course Q) (r : Relay Q)
-      → BeginsIn p (view_of client origin s) (view_of client origin t)
+  pub takes_begin : (s t : Core C O) (p : Phase) (q : Request) (h : ResponseHead) (new : Course Q)
+      (r : Relay Q) → MayEnter (arc_value s.setup).plugins.items p q h
+      → CallsNeither (view_of client origin s) (view_of client origin t)
       → (new ≡ K.Relaying r) ⊎ (new ≡ K.Phased (P.Ended E.NoMemory))
       → TakesStep client origin both s t p N.Go new
-  takes_begin s t p new r begins led = record {
+  takes_begin s t p q h new r enters calls led = record {
     minds = by_lead led;
     waits = tt;
-    leaves = λ told also. leaves_begun (view_of client origin s) (view_of client origin t) p begins;
-    closes = begin_closes (view_of client origin s) (view_of client origin t) p new begins;
+    leaves = λ told also. leaves_begun (view_of client origin s) (view_of client origin t) p calls;
+    closes = enter_closes (arc_value s.setup).plugins.items p q h new enters;
     started = λ was. by_start led;
   }
     where
       by_lead : (new ≡ K.Relaying r) ⊎ (new ≡ K.Phased (P.Ended E.NoMemory))
-          → (new ≡ K.Phased (P.Ended E.NoMemory)) ⊎ ((t ≡ s) × (new ≡ K.Phased p)) ⊎ MindsCourse client origin
+          → (new ≡ K.Phased (P.Ended E.NoMemory)) ⊎ ((t ≡ s) × StaysOrAsks p new) ⊎ MindsCourse client origin
           both s t p N.Go new
-      by_lead (inl same) = inr (inr (subst (MindsCourse client origin both s t p N.Go)
-          (sym same) begins))
+      by_lead (inl same) =
+          let begins : BeginsIn (arc_value s.setup).plugins.items p (view_of client origin s)
+          (view_of client origin t) = record { request = q; head = h; enters = enters; calls = calls } in
+          inr (inr (subst (MindsCourse client origin both s t p N.Go) (sym same) begins))
       by_lead (inr lacks) = inl lacks
 
       by_start : (new ≡ K.Relaying r) ⊎ (new ≡ K.Phased (P.Ended E.NoMemory)) → is_fresh_on new ≡ false
@@ -178,16 +208,27 @@ module _ {C O Q : Type 0} (client : link.Ghosts C) (origin : link.Ghosts O) (bot
       by_start (inr lacks) = ap is_fresh_on lacks
 
   -- memory lacked for its head
-  pub takes_lost : (s t : Core C O) (p : Phase)
-      → BeginsIn p (view_of client origin s) (view_of client origin t)
+  pub takes_lost : (s t : Core C O) (p : Phase) (q : Request) (h : ResponseHead)
+      → MayEnter (arc_value s.setup).plugins.items p q h
+      → CallsNeither (view_of client origin s) (view_of client origin t)
       → TakesStep {Q = Q} client origin both s t p N.Go (K.Phased (P.Ended E.NoMemory))
-  takes_lost s t p begins = record {
+  takes_lost s t p q h enters calls = record {
     minds = inl refl;
     waits = tt;
-    leaves = λ told also. leaves_begun (view_of client origin s) (view_of client origin t) p begins;
-    closes = begin_closes (view_of client origin s) (view_of client origin t) p
-        (K.Phased (P.Ended E.NoMemory)) begins;
+    leaves = λ told also. leaves_begun (view_of client origin s) (view_of client origin t) p calls;
+    closes = enter_closes (arc_value s.setup).plugins.items p q h (K.Phased (P.Ended E.NoMemory)) enters;
     started = λ was. refl;
+  }
+
+  -- a plugin is asked
+  pub takes_ask : (s : Core C O) (p next : Phase) → MayAsk p next
+      → TakesStep {Q = Q} client origin both s s p N.Go (K.Phased next)
+  takes_ask s p next asks = record {
+    minds = inr (inl (refl, inr asks));
+    waits = tt;
+    leaves = λ told also. leaves_same p (view_of client origin s);
+    closes = ask_closes p next (K.Phased next) asks;
+    started = λ was. ask_started p next asks;
   }
 
   -- the event of the next step is due then
@@ -244,12 +285,9 @@ module _ {C O Q : Type 0} (client : link.Ghosts C) (origin : link.Ghosts O) (bot
   idle_on s a role main (K.Phased p) none = record {
     next = N.Go;
     takes = record {
-      minds = inr (inl (refl, refl));
+      minds = inr (inl (refl, inl refl));
       waits = tt;
-      leaves = λ told also. record {
-        origin = leaves_in _ _ p (record { taken = refl; waits = refl });
-        client = spares_in _ _ p (record { given = refl; held = refl });
-      };
+      leaves = λ told also. leaves_same p (view_of client origin s);
       closes = closes_same Q p;
       started = λ was. was;
     };

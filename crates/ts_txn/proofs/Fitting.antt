@@ -8,16 +8,14 @@ use Rattle.ts_link.specs.Link.{IsSure, IsSurePlan, Look}
 use Rattle.ts_link.specs.declared.link.Link as link
 use Rattle.ts_upstream.specs.declared.upstream.Upstream as upstream
 use Rattle.ts_txn.specs.CourseCover.{is_fresh_on}
-use Rattle.ts_txn.specs.Driven.{TakesEvent}
 use Rattle.ts_phases.specs.Holding.{IsSameLink, StepKeeps}
 use Rattle.ts_txn.specs.Making.{IsMadeOf, IsMadeOfIf}
 use Rattle.ts_phases.specs.View.{is_dialed, side_if}
-use Rattle.ts_txn.specs.World.{HasTxnBegun, IsSameLinkIf, IsSureIf, IsTxnOf}
+use Rattle.ts_txn.specs.World.{HasTxnBegun, IsSameLinkIf, IsSureIf, IsTxnOf, faults_if}
 use Rattle.ts_phases.specs.declared.parts.Core.{Core}
 use Rattle.ts_phases.specs.declared.parts.Peer.{Peer}
 use Rattle.ts_txn.specs.declared.txn.Txn.{Txn}
 use Rattle.ts_txn.specs.declared.txn.TxnTag.{TxnTag}
-use Rattle.ts_txn.proofs.Events.{event_started}
 
 -- ---- the links
 
@@ -58,6 +56,13 @@ module _ {L : Type 0} (look : L → Look) where
   same_made_if (Some l) None made = absurd made
   same_made_if (Some l) (Some p) made = same_made l p made
 
+  base_made : (o : Option L) (x : Option (Peer L)) → IsMadeOfIf look o x
+      → (side_if look x).base ≡ faults_if look o
+  base_made None None made = refl
+  base_made None (Some p) made = absurd made
+  base_made (Some l) None made = absurd made
+  base_made (Some l) (Some p) made = made.base
+
   sure_made : (o : Option L) (x : Option (Peer L)) → IsMadeOfIf look o x
       → ((l : L) → o ≡ Some l → IsSure (look l)) → IsSureIf look x
   sure_made None None made sure = tt
@@ -81,6 +86,8 @@ module _ {C O : Type 0} (client : C → Look) (origin : O → Look) where
     plugins_at = plugins;
     client = same_made client tag.client.value t.core.client of_client;
     origin = same_made_if origin tag.origin.value t.core.origin of_origin;
+    client_base = of_client.base;
+    origin_base = base_made origin tag.origin.value t.core.origin of_origin;
     sure = λ is. (
       still_sure _ _ (same_made client tag.client.value t.core.client of_client) (sure is).0,
       sure_made origin tag.origin.value t.core.origin of_origin (sure is).1,
@@ -99,6 +106,8 @@ module _ {C O : Type 0} (client : C → Look) (origin : O → Look) where
     client = subst (λ (k : Core C O). IsSameLink (client tag.client.value) (client k.client.link)) (sym same)
         h.client;
     origin = subst (λ (k : Core C O). IsSameLinkIf origin tag.origin.value k.origin) (sym same) h.origin;
+    client_base = ap (λ (k : Core C O). k.client.base) same ∙ h.client_base;
+    origin_base = ap (λ (k : Core C O). (side_if origin k.origin).base) same ∙ h.origin_base;
     sure = λ is. subst (λ (k : Core C O). IsSure (client k.client.link) × IsSureIf origin k.origin) (sym same)
         (h.sure is);
     started = λ is. started (h.started is);
@@ -120,12 +129,15 @@ module _ {C O : Type 0} (client : C → Look) (origin : O → Look) where
         plugins_at = k.plugins_at;
         client = k.client;
         origin = k.origin;
+        client_base = k.client_base;
+        origin_base = k.origin_base;
         sure = k.sure;
         started = λ is. begun.started;
       }
 
 module _ {C O : Type 0} (client : link.Ghosts C) (origin : link.Ghosts O) (both : upstream.Ghosts O C) where
-  fits_on : {Q : Type 0} (tag : TxnTag C O) (t u : Txn C O Q) → StepKeeps client origin both t.core u.core
+  -- where a step keeps what it must, the tags stay
+  pub fits_on : {Q : Type 0} (tag : TxnTag C O) (t u : Txn C O Q) → StepKeeps client origin both t.core u.core
       → (is_fresh_on t.course ≡ false → is_fresh_on u.course ≡ false)
       → IsTxnOf client.look origin.look tag t → IsTxnOf client.look origin.look tag u
   fits_on tag t u keeps started h = record {
@@ -135,16 +147,11 @@ module _ {C O : Type 0} (client : link.Ghosts C) (origin : link.Ghosts O) (both 
     client = same_then _ _ _ h.client keeps.client;
     origin = same_on origin.look tag.origin.value t.core.origin u.core.origin keeps.dialed keeps.origin
         h.origin;
+    client_base = keeps.client_base ∙ h.client_base;
+    origin_base = keeps.origin_base ∙ h.origin_base;
     sure = λ is. (
       still_sure _ _ keeps.client (h.sure is).0,
       sure_on origin.look t.core.origin u.core.origin keeps.dialed keeps.origin (h.sure is).1,
     );
     started = λ is. started (h.started is);
   }
-
-  -- an event leaves the tags
-  pub fits_event : {Q : Type 0} (tag : TxnTag C O) (t u : Txn C O Q)
-      → TakesEvent client origin both t.core u.core t.course u.course → IsTxnOf client.look origin.look tag t
-      → IsTxnOf client.look origin.look tag u
-  fits_event tag t u takes h =
-      fits_on tag t u takes.keeps (event_started client origin both t.core u.core t.course u.course takes) h

@@ -1,5 +1,6 @@
 -- A transaction is sound again when it was started, and when an event was handled.
-use Rattle.std.proofs.Common.{◌≡◌, ◌+◌, ◌<◌, ◌≤◌, length, ap, ◌⊎◌, inl, inr, ℕ, List, [], true, false, Option, None, arith, sym, subst}
+use Rattle.std.proofs.Common.{◌≡◌, ◌+◌, ◌<◌, ◌≤◌, length, ap, ◌⊎◌, inl, inr, ℕ, List, [], true, false, Option}
+use Rattle.std.proofs.Common.{None, arith, sym, subst, ◌∙◌}
 use Rattle.std.specs.Arc.{arc_value}
 use Rattle.ts_hooks.specs.declared.txn_end.TxnEnd.{TxnEnd}
 use Rattle.ts_transform.specs.Flow.{ChainState}
@@ -18,13 +19,15 @@ use Rattle.ts_transform.specs.declared.transform.Transform as transform
 use Rattle.ts_transform.specs.Driving.{IsOfStageIf, unroused, works_at}
 use Rattle.ts_transform.specs.declared.continuation.StageContinuation.{StageContinuation}
 use Rattle.ts_relay.specs.BodyLinks.{HoldsLittle}
-use Rattle.ts_txn.specs.Course.{CourseFact, CourseHolds, course_after, finish_after}
+use Rattle.ts_txn.specs.Course.{CourseFact, CourseHolds, StandsForCauseOn, course_after, finish_after}
 use Rattle.ts_txn.specs.LoweringCourse.{IsOfLinesOn}
-use Rattle.ts_txn.specs.CourseCover.{CoversAlone, HasEventsOn, IsAlone, IsCoveredNow, PassesNoBody, ProceedsOn, StaysOnOrLacks, is_fresh_on}
+use Rattle.ts_txn.specs.CourseCover.{CoversAlone, HasEventsOn, IsAlone, IsCoveredNow, PassesNoBody}
+use Rattle.ts_txn.specs.CourseCover.{ProceedsOn, StaysOnOrLacks, is_fresh_on}
 use Rattle.ts_phases.specs.Cover.{set_after}
 use Rattle.ts_relay.specs.Duties.{UnlessLacking, WhileGoes}
-use Rattle.ts_phases.specs.Holding.{IfTold, StepKeeps}
-use Rattle.ts_txn.specs.Making.{HasFewLines, end_of_course}
+use Rattle.ts_phases.specs.Holding.{HasTable, IfTold, StepKeeps}
+use Rattle.ts_txn.specs.Making.{IsTxnSetup, end_of_course}
+use Rattle.ts_plugin.specs.Lines.{table_of}
 use Rattle.ts_phases.specs.View.{OriginRefuses, View, view_of}
 use Rattle.ts_txn.specs.World.{HoldsLittleOn, HoldsOn, IsSoundNow, IsSoundOn, IsSoundTxn}
 use Rattle.ts_txn.specs.declared.course.Course.{Course}
@@ -38,7 +41,9 @@ use Rattle.ts_phases.specs.declared.phase.Next.TheVariants as N
 use Rattle.ts_phases.specs.declared.phase.Phase.TheVariants as P
 use Rattle.ts_relay.specs.declared.relay.Relay.{Relay}
 use Rattle.ts_txn.specs.declared.txn.Txn.{Txn}
-use Rattle.ts_txn.proofs.CourseCalls.{alone_called, at_rest_on, later_covered, on_other, on_quiet, proceeds_phase}
+use Rattle.ts_txn.proofs.Causes.{cause_stays, counts_on}
+use Rattle.ts_txn.proofs.CourseCalls.{alone_called, at_rest_on, later_covered, on_other, on_quiet}
+use Rattle.ts_txn.proofs.CourseCalls.{proceeds_phase}
 use Rattle.ts_txn.proofs.Coursing.{course_settled, stays_on}
 use Rattle.ts_txn.proofs.Coverage.{fresh_on}
 use Rattle.ts_txn.proofs.LoweringCourse.{lines_stay}
@@ -104,11 +109,18 @@ pub little_last : (Q : Type 0) (v : View) (end : TxnEnd) (step : BodyStep)
 little_last Q v end S.Goes = tt
 little_last Q v end _ = tt
 
--- the lines of a setup and their groups stay as few
-few_stay : (setup other : Setup) (at now : ℕ) → other ≡ setup → now ≡ at → HasFewLines setup at
-    → HasFewLines other now
-few_stay setup other at now same still few =
-    subst (λ s. HasFewLines s now) (sym same) (subst (λ (n : ℕ). HasFewLines setup n) (sym still) few)
+-- what is said of a setup and of the group of its first line goes on to hold where both are the same
+pub setup_stays : (Holds : Setup → ℕ → Type 0) (setup other : Setup) (at now : ℕ) → other ≡ setup → now ≡ at
+    → Holds setup at → Holds other now
+setup_stays Holds setup other at now same still holds =
+    subst (λ s. Holds s now) (sym same) (subst (λ (n : ℕ). Holds setup n) (sym still) holds)
+
+-- so is the table of its hooks
+table_stays : {C O : Type 0} (client : link.Ghosts C) (origin : link.Ghosts O) (both : upstream.Ghosts O C)
+    (s t : Core C O) → StepKeeps client origin both s t → HasTable s → HasTable t
+table_stays client origin both s t keeps has =
+    keeps.hooks ∙ has ∙ sym (ap (λ n. table_of n (arc_value s.setup).plugins.items) keeps.plugins_at)
+    ∙ sym (ap (λ x. table_of t.plugins_at (arc_value {X = Setup} x).plugins.items) keeps.setup)
 
 module _ {C O Q : Type 0} (client : link.Ghosts C) (origin : link.Ghosts O) (both : upstream.Ghosts O C)
     (stage : transform.Ghosts Q TransformLine) where
@@ -140,7 +152,12 @@ module _ {C O Q : Type 0} (client : link.Ghosts C) (origin : link.Ghosts O) (bot
           lines = lines_stay (arc_value t.core.setup) stage.rest (K.Phased P.TxnStart) u.course tt led;
           little = λ told also. little_stay (view_of client origin t.core) (K.Phased P.TxnStart) u.course tt
               led;
-          few = h.stands.few;
+          setup = h.stands.setup;
+          hooks = h.stands.hooks;
+          causes = cause_stays (view_of client origin t.core) (K.Phased P.TxnStart) u.course (record {
+            counts = counts_on (view_of client origin t.core) t.course h.stands.causes;
+            ends = tt;
+          }) led;
         };
         covered = covers (fresh_alone (view_of client origin t.core) t.main t.course a fresh h.covered)
             (view_of client origin t.core);
@@ -193,9 +210,10 @@ module _ {C O Q : Type 0} (client : link.Ghosts C) (origin : link.Ghosts O) (bot
       → StepKeeps client origin both s t → CourseHolds client origin both stage t new
       → IsOfLinesOn (arc_value t.setup) stage.rest new
       → IfTold client.tells origin.tells (HoldsLittleOn (view_of client origin t) new)
+      → StandsForCauseOn (view_of client origin t) new
       → IsCoveredNow (view_of client origin t) u new b
       → IsSoundNow client origin both stage t u new b
-  sound_here s t old new u b stands keeps holds lines little covered =
+  sound_here s t old new u b stands keeps holds lines little causes covered =
       record {
         stands = record {
           holds = holds;
@@ -204,8 +222,10 @@ module _ {C O Q : Type 0} (client : link.Ghosts C) (origin : link.Ghosts O) (bot
           lines =
               lines;
           little = little;
-          few = few_stay (arc_value s.setup) (arc_value t.setup) s.plugins_at t.plugins_at
-              (ap (λ x. arc_value x) keeps.setup) keeps.plugins_at stands.few;
+          setup = setup_stays IsTxnSetup (arc_value s.setup) (arc_value t.setup) s.plugins_at t.plugins_at
+              (ap (λ x. arc_value x) keeps.setup) keeps.plugins_at stands.setup;
+          hooks = table_stays client origin both s t keeps stands.hooks;
+          causes = causes;
         };
         covered = covered;
       }
@@ -219,13 +239,15 @@ module _ {C O Q : Type 0} (client : link.Ghosts C) (origin : link.Ghosts O) (bot
       (view_of client origin t) led)
       → IsOfLinesOn (arc_value s.setup) stage.rest led
       → IfTold client.tells origin.tells (HoldsLittleOn (view_of client origin t) led)
+      → StandsForCauseOn (view_of client origin t) led
       → StaysOnOrLacks led new → IsCoveredNow (view_of client origin t) u new b
       → IsSoundNow client origin both stage t u new b
-  sound_led s t old led new u b stands keeps fact lines little stays covered =
+  sound_led s t old led new u b stands keeps fact lines little causes stays covered =
       sound_here s t old new u b stands keeps
       (λ told also. course_settled client origin both stage.rest s t new keeps
       (stays_on (arc_value s.setup) (OriginRefuses client both s) stage.rest (view_of client origin t) led new
       (fact told also) stays))
       (subst (λ x. IsOfLinesOn (arc_value x) stage.rest new) (sym keeps.setup)
       (lines_stay (arc_value s.setup) stage.rest led new lines stays))
-      (λ told also. little_stay (view_of client origin t) led new (little told also) stays) covered
+      (λ told also. little_stay (view_of client origin t) led new (little told also) stays)
+      (cause_stays (view_of client origin t) led new causes stays) covered

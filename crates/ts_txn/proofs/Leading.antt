@@ -1,5 +1,5 @@
--- Behind a step of its body a transaction stays where it is, or the body is left: whether one is passed on, and
--- that each duty has its event then.
+-- Behind a step of its body a transaction stays where it is, or the body is left: whether one is passed on,
+-- and that each duty has its event then.
 use Rattle.std.proofs.Common.{◌≡◌, ◌≤◌, ◌⊎◌, inl, inr, true, Option, refl, sym, subst}
 use Rattle.ts_journal.specs.declared.entry.TheConstants.{GREATEST}
 use Rattle.ts_group.specs.Context.{Context}
@@ -11,7 +11,8 @@ use Rattle.ts_relay.specs.declared.last_writes.BodyStep.{BodyStep}
 use Rattle.ts_relay.specs.declared.last_writes.BodyStep.TheVariants as S
 use Rattle.ts_relay.specs.declared.relay.Relay.{Relay}
 use Rattle.ts_txn.specs.Course.{course_after}
-use Rattle.ts_txn.specs.CourseCover.{BodyHasEvents, CoversLed, HasStepDone, LedAfter, PassesBody, PassesNoBody}
+use Rattle.ts_txn.specs.CourseCover.{BodyHasEvents, CoversLed, HasStepDone, LedAfter, PassesBody}
+use Rattle.ts_txn.specs.CourseCover.{PassesNoBody}
 use Rattle.ts_txn.specs.Driven.{LeadsRelay, LeavesRelay, is_passed_on}
 use Rattle.ts_txn.specs.declared.course.Course.{Course}
 use Rattle.ts_txn.specs.declared.course.Course.TheVariants as K

@@ -1,4 +1,5 @@
 pub mod BodyEvents
+pub mod Causes
 pub mod CourseCalls
 pub mod CourseSeats
 pub mod Coursing
@@ -11,6 +12,11 @@ pub mod Leading
 pub mod LoweringCourse
 pub mod Made
 pub mod NextSteps
+pub mod PhaseEvents
+pub mod Promises
 pub mod Resting
 pub mod Seating
+pub mod Sending
+pub mod SentBodies
 pub mod Telling
+pub mod Told

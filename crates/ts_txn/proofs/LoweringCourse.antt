@@ -1,7 +1,8 @@
 -- Wherever an event leads a transaction on its course, what is left to do pays for each event that is set, so
 -- that each event
 -- that is handled lowers its number.
-use Rattle.std.proofs.Common.{zero-le, ◌≡◌, ◌⊎◌, inl, inr, ℕ, ◌+◌, ◌≤◌, List, length, Bool, true, false, arith, refl, sym, ap, subst}
+use Rattle.std.proofs.Common.{zero-le, ◌≡◌, ◌⊎◌, inl, inr, ℕ, ◌+◌, ◌≤◌, List, length, Bool, true, false}
+use Rattle.std.proofs.Common.{arith, refl, sym, ap, subst}
 use Rattle.std.specs.Prelude.{◌&&◌, Option, Some, None}
 use Rattle.std.specs.Arc.{arc_value}
 use Rattle.ts_config.specs.declared.setup.Setup.{Setup}
@@ -12,26 +13,25 @@ use Rattle.ts_journal.specs.declared.entry.TheConstants.{GREATEST}
 use Rattle.ts_journal.specs.declared.entry.Event.{Event}
 use Rattle.ts_journal.specs.State.{State}
 use Rattle.ts_group.proofs.Keeps.{falls_refl}
-use Rattle.ts_group.specs.Answers.{Falls, TellFalls}
+use Rattle.ts_group.specs.Answers.{Falls}
 use Rattle.ts_group.specs.Calls.{IsCalled}
 use Rattle.ts_group.specs.Context.{Context}
 use Rattle.ts_group.specs.declared.action.Named.{Named}
-use Rattle.ts_group.specs.declared.world.Asked.{Asked}
-use Rattle.ts_group.specs.declared.world.Asked.TheVariants.{Missed}
 use Rattle.ts_link.specs.Link.{Fewer, NoMore}
 use Rattle.ts_config.specs.declared.setup.TransformLine.{TransformLine}
 use Rattle.ts_link.specs.declared.link.Link as link
 use Rattle.ts_upstream.specs.declared.upstream.Upstream as upstream
 use Rattle.ts_transform.specs.declared.transform.Transform as transform
-use Rattle.ts_wire.specs.declared.heads.ResponseHead.{ResponseHead}
 use Rattle.ts_txn.specs.Course.{course_after, finish_after}
 use Rattle.ts_transform.specs.declared.continuation.StageContinuation.{StageContinuation}
 use Rattle.ts_txn.specs.CourseCover.{BodyHasEvents, IsCoveredOn, StaysOnOrLacks}
 use Rattle.ts_phases.specs.Cover.{set_after}
 use Rattle.ts_relay.specs.Duties.{set_leaving, IsBodyCovered, WhileGoes}
 use Rattle.ts_phases.specs.Holding.{IfTold}
-use Rattle.ts_phases.specs.Lowering.{StepFalls, agains_left, events_paid, if_told, number_left, phase_work, upload_in, work_left}
-use Rattle.ts_relay.specs.LoweringBody.{IsOfLines, StaysOfLines, ended_left, finish_left, left_after, rest_after, unbegun_left}
+use Rattle.ts_phases.specs.Lowering.{StepFalls, agains_left, enter_left, enter_work, events_paid, if_told}
+use Rattle.ts_phases.specs.Lowering.{number_left, phase_work, upload_in, work_left}
+use Rattle.ts_relay.specs.LoweringBody.{IsOfLines, StaysOfLines, ended_left, finish_left, left_after}
+use Rattle.ts_relay.specs.LoweringBody.{rest_after, unbegun_left}
 use Rattle.ts_txn.specs.LoweringCourse.{IsOfLinesOn, course_left, number_if, parts_left, transaction_left}
 use Rattle.ts_phases.specs.View.{View, upload_of, view_of}
 use Rattle.ts_txn.specs.declared.course.Course.{Course}
@@ -43,12 +43,12 @@ use Rattle.ts_phases.specs.declared.phase.Next.{Next}
 use Rattle.ts_phases.specs.declared.phase.Next.TheVariants as N
 use Rattle.ts_phases.specs.declared.phase.Phase.{Phase}
 use Rattle.ts_phases.specs.declared.phase.Phase.TheVariants as P
-use Rattle.ts_phases.specs.declared.phase.Request.{Request}
 use Rattle.ts_phases.specs.declared.phase.Step.{Step}
 use Rattle.ts_relay.specs.declared.relay.Relay.{Relay}
 use Rattle.ts_txn.proofs.CourseCalls.{spent_still}
 use Rattle.ts_relay.proofs.LoweringEntry.{ended_no_more}
-use Rattle.ts_relay.proofs.LoweringEvents.{handled_falls, one_paid, paid_fewer, paid_none, paid_then, step_pays}
+use Rattle.ts_relay.proofs.LoweringEvents.{handled_falls, one_paid, paid_fewer, paid_none, paid_then}
+use Rattle.ts_relay.proofs.LoweringEvents.{step_pays}
 use Rattle.ts_relay.proofs.LoweringPays.{set_one}
 use Rattle.ts_relay.proofs.LoweringRelay.{ended_if}
 
@@ -75,6 +75,19 @@ fewer_then None n k fell kept = tt
 fewer_then (Some x) None k fell kept = absurd fell
 fewer_then (Some x) (Some y) None fell kept = absurd kept
 fewer_then (Some x) (Some y) (Some z) fell kept = omega (arith, fell, kept)
+
+-- no more, and then fewer, is fewer; and no more than that is no more
+then_fewer : (m n k : Option ℕ) → NoMore m n → Fewer n k → Fewer m k
+then_fewer None n k kept fell = tt
+then_fewer (Some x) None k kept fell = absurd kept
+then_fewer (Some x) (Some y) None kept fell = absurd fell
+then_fewer (Some x) (Some y) (Some z) kept fell = omega (arith, kept, fell)
+
+then_none : (m n k : Option ℕ) → NoMore m n → NoMore n k → NoMore m k
+then_none None n k kept none = tt
+then_none (Some x) None k kept none = absurd kept
+then_none (Some x) (Some y) None kept none = absurd none
+then_none (Some x) (Some y) (Some z) kept none = omega (arith, kept, none)
 
 plus_none : (a b k : ℕ) → a ≤ b + k → a + 0 ≤ b + k
 plus_none a b k few = omega (arith, few)
@@ -134,45 +147,41 @@ module _ {Q : Type 0} (setup : Setup) (rest : Q → List ℕ → List ℕ) where
 
   -- ---- the body began
 
-  pub begun_led : (q : Request) (h : ResponseHead) (step : BodyStep) (r s : Relay Q) (result : Course Q)
-      (v w : View) (upload upload_then : Option ℕ) (before mid now : List Pending)
-      → Fewer (work_left setup upload v (P.ResponseTransform q h)) (unbegun_left setup rest w r)
-      → NoMore (unbegun_left setup rest w r) (left_after setup rest step w s)
-      → length mid ≤ length before + 4 → StaysOnOrLacks (course_after s step) result
-      → length now ≤ length mid + set_leaving step
-      → Falls (number_left before (work_left setup upload v (P.ResponseTransform q h))) 0
-      (number_left now (course_left setup rest upload_then w result))
-  begun_led q h step r s result v w upload upload_then before mid now fell kept few led behind =
-      body_led step s result w upload_then before mid now (work_left setup upload v (P.ResponseTransform q h))
-      led
-      (paid_fewer before mid (work_left setup upload v (P.ResponseTransform q h))
-      (left_after setup rest step w s) (set_leaving step)
-      (fewer_then (work_left setup upload v (P.ResponseTransform q h)) (unbegun_left setup rest w r)
-      (left_after setup rest step w s) fell kept)
-      (five_paid (length before) (length mid) (set_leaving step) few (set_one step))) behind
+  module _ (m : Option ℕ) (v w : View) (kept : NoMore m (enter_left setup v)) where
+    pub begun_led : (step : BodyStep) (r s : Relay Q) (result : Course Q) (upload : Option ℕ)
+        (before mid now : List Pending) → Fewer (enter_left setup v) (unbegun_left setup rest w r)
+        → NoMore (unbegun_left setup rest w r) (left_after setup rest step w s)
+        → length mid ≤ length before + 4 → StaysOnOrLacks (course_after s step) result
+        → length now ≤ length mid + set_leaving step
+        → Falls (number_left before m) 0 (number_left now (course_left setup rest upload w result))
+    begun_led step r s result upload before mid now fell stays few led behind =
+        body_led step s result w upload before mid now m led
+        (paid_fewer before mid m (left_after setup rest step w s) (set_leaving step)
+        (fewer_then m (unbegun_left setup rest w r) (left_after setup rest step w s)
+        (then_fewer m (enter_left setup v) (unbegun_left setup rest w r) kept fell) stays)
+        (five_paid (length before) (length mid) (set_leaving step) few (set_one step))) behind
 
-  -- memory lacked for its head
-  pub not_begun : (q : Request) (h : ResponseHead) (v w : View) (upload upload_then : Option ℕ)
-      (before now : List Pending) → w.client.look.agains ≡ v.client.look.agains
-      → w.origin.look.agains ≡ v.origin.look.agains → length now ≤ length before
-      → Falls (number_left before (work_left setup upload v (P.ResponseTransform q h))) 0
-      (number_left now (course_left setup rest upload_then w (K.Phased (P.Ended E.NoMemory))))
-  not_begun q h v w upload upload_then before now client origin none =
-      paid_none before now (work_left setup upload v (P.ResponseTransform q h)) (ended_left w)
-      (zero_more (agains_left v) (agains_left w) (phase_work_of v) (same_agains v w client origin)) none
-    where
-      phase_work_of : View → ℕ → ℕ
-      phase_work_of v x = phase_work setup x 0 v (P.ResponseTransform q h)
+    -- memory lacked for its head
+    pub not_begun : (upload : Option ℕ) (before now : List Pending)
+        → w.client.look.agains ≡ v.client.look.agains → w.origin.look.agains ≡ v.origin.look.agains
+        → length now ≤ length before
+        → Falls (number_left before m) 0
+        (number_left now (course_left setup rest upload w (K.Phased (P.Ended E.NoMemory))))
+    not_begun upload before now client origin none =
+        paid_none before now m (ended_left w)
+        (then_none m (enter_left setup v) (ended_left w) kept
+        (zero_more (agains_left v) (agains_left w) (λ again. enter_work setup again 0 v)
+        (same_agains v w client origin))) none
+      where
+        zero_more : (m m' : Option ℕ) (f : ℕ → ℕ) → m' ≡ m
+            → NoMore (if_told m (Some 0) (λ x y. f x)) (if_told m' (Some 0) (λ x y. 0))
+        zero_more None m' f same = tt
+        zero_more (Some x) m' f same = subst (λ (n : Option ℕ). NoMore (Some (f x))
+            (if_told n (Some 0) (λ x y. 0))) (sym same) zero-le
 
-      zero_more : (m m' : Option ℕ) (f : ℕ → ℕ) → m' ≡ m
-          → NoMore (if_told m (Some 0) (λ x y. f x)) (if_told m' (Some 0) (λ x y. 0))
-      zero_more None m' f same = tt
-      zero_more (Some x) m' f same = subst (λ (n : Option ℕ). NoMore (Some (f x))
-          (if_told n (Some 0) (λ x y. 0))) (sym same) zero-le
-
-      same_agains : (v w : View) → w.client.look.agains ≡ v.client.look.agains
-          → w.origin.look.agains ≡ v.origin.look.agains → agains_left w ≡ agains_left v
-      same_agains v w client origin = rw (client, origin) refl
+        same_agains : (v w : View) → w.client.look.agains ≡ v.client.look.agains
+            → w.origin.look.agains ≡ v.origin.look.agains → agains_left w ≡ agains_left v
+        same_agains v w client origin = rw (client, origin) refl
 
   -- ---- one of the last writes
 
@@ -241,7 +250,7 @@ module _ {C O Q : Type 0} (client : link.Ghosts C) (origin : link.Ghosts O) (bot
   stays_on core course pending told also = falls_refl
       (number_left pending (parts_left client origin both stage core course))
 
-  if_both : (a b : Bool) (m n : Option ℕ) (k : ℕ) → (a ≡ true → b ≡ true → Falls m k n)
+  pub if_both : (a b : Bool) (m n : Option ℕ) (k : ℕ) → (a ≡ true → b ≡ true → Falls m k n)
       → Falls (number_if (a && b) m) k (number_if (a && b) n)
   if_both true true m n k fell = fell refl refl
   if_both true false m n k fell = tt
@@ -270,15 +279,6 @@ module _ {C O Q : Type 0} (client : link.Ghosts C) (origin : link.Ghosts O) (bot
       (paid told also)))
 
 -- where nothing was done
-pub hears_same : {R T : Type 0} (asked : Asked R T) (m n : Option ℕ) → n ≡ m → TellFalls asked m n
-hears_same {R} {T} asked m n same = subst (λ (x : Option ℕ). TellFalls asked m x) (sym same)
-    (by_answer asked m)
-  where
-    by_answer : (asked : Asked R T) (m : Option ℕ) → TellFalls asked m m
-    by_answer (Missed seen q) None = tt
-    by_answer (Missed seen q) (Some x) = tt
-    by_answer _ m = falls_refl m
-
 pub asked_same : (m n : Option ℕ) → n ≡ m → Falls m 0 n
 asked_same m n same = subst (λ (x : Option ℕ). Falls m 0 x) (sym same) (falls_refl m)
 

@@ -1,5 +1,6 @@
 -- A transaction that was just made is sound: nothing was given, taken or queued.
-use Rattle.std.proofs.Common.{◌≡◌, ℕ, ◌≤◌, List, [], true, Option, Some, None, inl, arith, refl, sym, ap, subst, ◌∙◌}
+use Rattle.std.proofs.Common.{◌≡◌, ℕ, ◌≤◌, List, [], true, Option, Some, None, inl, arith, refl, sym, ap}
+use Rattle.std.proofs.Common.{subst, ◌∙◌}
 use Rattle.std.specs.Arc.{arc_value}
 use Rattle.std.specs.Prelude.{⊤}
 use Rattle.ts_group.specs.declared.action.Named.{Named}
@@ -15,8 +16,9 @@ use Rattle.ts_wire.specs.declared.frames.Mode.TheVariants as M
 use Rattle.ts_config.specs.declared.setup.TransformLine.{TransformLine}
 use Rattle.ts_relay.specs.Entering.{ActsAsLines}
 use Rattle.ts_phases.specs.Facts.{Asking, Untouched}
-use Rattle.ts_txn.specs.Making.{ArePaired, HasFewLines, IsMadeOf, IsMadeOfIf, IsNewLink, IsNewLinkIf}
-use Rattle.ts_phases.specs.View.{PairIf, side, side_if, view_of}
+use Rattle.ts_phases.specs.Holding.{HasTable}
+use Rattle.ts_txn.specs.Making.{ArePaired, IsMadeOf, IsMadeOfIf, IsNewLink, IsNewLinkIf, IsTxnSetup}
+use Rattle.ts_phases.specs.View.{HasCount, PairIf, side, side_if, view_of}
 use Rattle.ts_txn.specs.World.{IsSoundOn, IsSoundTxn, IsSoundTxnGroup}
 use Rattle.ts_txn.specs.declared.course.Course.TheVariants as K
 use Rattle.ts_phases.specs.declared.parts.Peer.{Peer}
@@ -52,6 +54,12 @@ module _ {L : Type 0} (look : L → Look) where
   untouched_if None (Some p) made unused = absurd made
   untouched_if (Some l) None made unused = absurd made
   untouched_if (Some l) (Some p) made unused = untouched l p made unused
+
+  count_if : (o : Option L) (x : Option (Peer L)) → IsMadeOfIf look o x → HasCount (side_if look x)
+  count_if None None made = omega arith
+  count_if None (Some p) made = absurd made
+  count_if (Some l) None made = absurd made
+  count_if (Some l) (Some p) made = count l p made
 
 module _ {C O Q : Type 0} (client : link.Ghosts C) (origin : link.Ghosts O) (c : C) (o : Option O)
     (t : Txn C O Q)
@@ -91,11 +99,11 @@ module _ {C O Q : Type 0} (client : link.Ghosts C) (origin : link.Ghosts O) (c :
         → (origin.tells ≡ true → IsNewLinkIf origin.look o)
         → ArePaired both.paired c o
         → ActsAsLines stage.whole
-        → HasFewLines (arc_value t.core.setup) t.core.plugins_at
+        → IsTxnSetup (arc_value t.core.setup) t.core.plugins_at → HasTable t.core
         → t.course ≡ K.Phased P.Fresh → t.main ≡ None → t.core.sent.head ≡ 0 → t.core.sent.mode ≡ M.Plain
         → t.core.sent.cuts.items ≡ []
         → IsSoundTxn client origin both stage t [] next roles
-    sound both stage next roles unused unused_origin pair acts few fresh none head mode
+    sound both stage next roles unused unused_origin pair acts takes table fresh none head mode
         cuts =
         subst (λ k. IsSoundOn client origin both stage t.core t.main k [] next
         roles) (sym fresh)
@@ -107,7 +115,15 @@ module _ {C O Q : Type 0} (client : link.Ghosts C) (origin : link.Ghosts O) (c :
             acts = acts;
             lines = tt;
             little = λ told also. tt;
-            few = few;
+            setup = takes;
+            hooks = table;
+            causes = record {
+              counts = record {
+                client = count client.look c t.core.client of_client;
+                origin = count_if origin.look o t.core.origin of_origin;
+              };
+              ends = tt;
+            };
           };
           covered = record {
             seated = λ n p there. let wrong : ◌≡◌ {A = Option Pending} None (Some p) = there in absurd (cc);

@@ -11,7 +11,8 @@ use Rattle.ts_group.specs.declared.action.Named.{Named}
 use Rattle.ts_link.specs.declared.link.Link as link
 use Rattle.ts_upstream.specs.declared.upstream.Upstream as upstream
 use Rattle.ts_transform.specs.declared.transform.Transform as transform
-use Rattle.ts_txn.specs.Course.{CourseHolds}
+use Rattle.ts_txn.specs.Course.{CourseHolds, StandsForCauseOn}
+use Rattle.ts_phases.specs.Causes.{HasCause, StandsForCause}
 use Rattle.ts_phases.specs.Ends.{EndFact}
 use Rattle.ts_txn.specs.Making.{end_of_course, end_of_phase}
 use Rattle.ts_txn.specs.Resting.{HasEndedSo, NeverFailed, RestsWithBlock, SendsBlock}
@@ -55,6 +56,17 @@ module _ {C O Q : Type 0} (client : link.Ghosts C) (origin : link.Ghosts O) (bot
       → HasEndedSo client origin both t end
   ended_so pending next roles end is sound = subst (CourseHolds client origin both stage t.core)
       (ended_course t.course end is) sound.stands.holds
+
+  -- whether its links tell or not, an end for the fault of one has that cause
+  pub ended_for_cause : (pending : List Pending) (next : ℕ) (roles : List Named) (end : TxnEnd)
+      → end_of_course t.course ≡ Some end → IsSoundTxn client origin both stage t pending next
+      roles
+      → HasCause (view_of client origin t.core) end
+  ended_for_cause pending next roles end is sound =
+      let stood : StandsForCause (view_of client origin t.core) (P.Ended end) =
+      subst (λ x. StandsForCauseOn (view_of client origin t.core) x) (ended_course t.course end is)
+      sound.stands.causes in
+      stood.ends
 
   pub rests_with_block : (next : ℕ) (roles : List Named)
       → IsSoundTxn client origin both stage t [] next roles

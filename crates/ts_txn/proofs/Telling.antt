@@ -32,7 +32,9 @@ some_upload : (upload : Option ℕ) (p : Phase) → IsSome upload → IsSome (up
 some_upload upload (P.ReadResponse q) told = refl
 some_upload upload (P.ReadResponseHdr q h) told = refl
 some_upload upload (P.ResponseTransform q h) told = refl
+some_upload upload (P.RuleResponse q h place fields) told = refl
 some_upload upload (P.SendResponseHdr a) told = refl
+some_upload upload (P.RuleAnswer a place fields) told = refl
 some_upload upload (P.Sending a) told = refl
 some_upload upload (P.TxnClose end) told = refl
 some_upload upload (P.Ended end) told = refl

@@ -12,6 +12,7 @@ use Rattle.ts_transform.specs.declared.transform.Transform as transform
 use Rattle.ts_phases.specs.View.{OriginRefuses, View, view_of}
 use Rattle.ts_relay.specs.Finishing.{IsFinishing}
 use Rattle.ts_relay.specs.Relaying.{RelaysBody}
+use Rattle.ts_phases.specs.Causes.{HasCause, HasCounts, StandsForCause}
 use Rattle.ts_phases.specs.Holding.{IfTold, PhaseFact}
 use Rattle.ts_relay.specs.declared.last_writes.BodyStep.{BodyStep}
 use Rattle.ts_relay.specs.declared.last_writes.BodyStep.TheVariants as S
@@ -50,6 +51,13 @@ module _ (setup : Setup) (refuses : Type 0) {Q : Type 0} (rest : Q → List ℕ 
   CourseFact v (K.Phased p) = PhaseFact setup refuses v p
   CourseFact v (K.Relaying r) = RelaysBody setup refuses rest v r.driven.chain r.body
   CourseFact v (K.Finishing end) = IsFinishing setup refuses v end
+
+-- Whether its links tell or not, neither has forgotten a fault, and an end for the fault of one comes only
+-- where that one failed.
+abbrev pub StandsForCauseOn : {Q : Type 0} → View → Course Q → Type 0
+StandsForCauseOn v (K.Phased p) = StandsForCause v p
+StandsForCauseOn v (K.Relaying r) = HasCounts v
+StandsForCauseOn v (K.Finishing end) = HasCounts v × HasCause v end
 
 module _ {C O Q : Type 0} (client : link.Ghosts C) (origin : link.Ghosts O) (both : upstream.Ghosts O C)
     (stage : transform.Ghosts Q TransformLine) where

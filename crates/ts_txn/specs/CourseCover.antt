@@ -13,7 +13,8 @@ use Rattle.ts_transform.specs.Flow.{EndsInOrder}
 use Rattle.ts_transform.specs.Seats.{AllSeated}
 use Rattle.ts_transform.specs.declared.continuation.StageContinuation.{StageContinuation}
 use Rattle.ts_phases.specs.Cover.{Proceeds, is_fresh}
-use Rattle.ts_relay.specs.Duties.{AreBodyEndsRoused, IsBodyCovered, IsBodyJoined, RunsOr, UnlessLacking, WhileGoes, body_seats, relay_seats}
+use Rattle.ts_relay.specs.Duties.{AreBodyEndsRoused, IsBodyCovered, IsBodyJoined, RunsOr, UnlessLacking}
+use Rattle.ts_relay.specs.Duties.{WhileGoes, body_seats, relay_seats}
 use Rattle.ts_phases.specs.View.{View}
 use Rattle.ts_txn.specs.declared.course.Course.{Course}
 use Rattle.ts_txn.specs.declared.course.Course.TheVariants as K

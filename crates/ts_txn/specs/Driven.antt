@@ -1,6 +1,8 @@
 -- What an event of a transaction leads to, by how far it is: in a phase it makes a step, while a body is
 -- passed on a part of that, and then one of the last writes.
-use Rattle.std.specs.Prelude.{◌≡◌, ◌⊎◌, ℕ, Bool, true, false, Option, ⊤}
+use Rattle.std.specs.Prelude.{◌≡◌, ◌⊎◌, ℕ, List, Bool, true, false, Option, ⊤}
+use Rattle.std.specs.Arc.{arc_value}
+use Rattle.ts_config.specs.declared.fields.PluginLine.{PluginLine}
 use Rattle.ts_group.specs.Context.{Context}
 use Rattle.ts_group.specs.Entries.{Grows}
 use Rattle.ts_hooks.specs.declared.txn_end.TxnEnd.{TxnEnd}
@@ -12,11 +14,12 @@ use Rattle.ts_transform.specs.declared.continuation.StageContinuation.{StageCont
 use Rattle.ts_relay.specs.BodyLinks.{BeginsInTime, HandlesLinks, MindsBody, SendsRest}
 use Rattle.ts_txn.specs.Course.{course_after, finish_after}
 use Rattle.ts_phases.specs.Cover.{is_fresh}
-use Rattle.ts_txn.specs.CourseCover.{is_fresh_on, CoversLed, LedAfter, StaysOnOrLacks, StaysWhereNamed, pause_after}
+use Rattle.ts_txn.specs.CourseCover.{is_fresh_on, CoversLed, LedAfter, StaysOnOrLacks, StaysWhereNamed}
+use Rattle.ts_txn.specs.CourseCover.{pause_after}
 use Rattle.ts_relay.specs.Duties.{set_leaving, DoesOwnWork}
 use Rattle.ts_relay.specs.Entering.{CallsNeither}
 use Rattle.ts_phases.specs.Holding.{IfTold, StepKeeps}
-use Rattle.ts_phases.specs.Owed.{MayFollow}
+use Rattle.ts_phases.specs.Owed.{MayAsk, MayEnter, MayFollow}
 use Rattle.ts_phases.specs.Steps.{LeavesSides, MindsLinksIn, WaitsRightly}
 use Rattle.ts_phases.specs.View.{View, view_of}
 use Rattle.ts_txn.specs.declared.course.Course.{Course}
@@ -30,7 +33,9 @@ use Rattle.ts_phases.specs.declared.phase.Next.{Next}
 use Rattle.ts_phases.specs.declared.phase.Next.TheVariants as N
 use Rattle.ts_phases.specs.declared.phase.Phase.{Phase}
 use Rattle.ts_phases.specs.declared.phase.Phase.TheVariants as P
+use Rattle.ts_phases.specs.declared.phase.Request.{Request}
 use Rattle.ts_relay.specs.declared.relay.Relay.{Relay}
+use Rattle.ts_wire.specs.declared.heads.ResponseHead.{ResponseHead}
 
 -- how long after a step the next one is made, in milliseconds
 abbrev pub delay_of : Next → ℕ
@@ -60,10 +65,22 @@ abbrev pub LeadsRelay : {Q : Type 0} → BodyStep → Course Q → Course Q → 
 LeadsRelay step (K.Relaying r) new t u a b = LeavesRelay step r new t u a b
 LeadsRelay step _ new t u a b = ⊥
 
--- a body begins to be passed on in one phase alone, and no call is made on a link then
-abbrev pub BeginsIn : Phase → View → View → Type 0
-BeginsIn (P.ResponseTransform q h) v w = CallsNeither v w
-BeginsIn _ v w = ⊥
+-- a body begins to be passed on where all plugins of its head's hook have answered, and no call is made on a
+-- link then
+pub record BeginsIn (lines : List PluginLine) (old : Phase) (v w : View) : Type 0 where
+  pub request : Request
+  pub head : ResponseHead
+  pub enters : MayEnter lines old request head
+  pub calls : CallsNeither v w
+
+-- A plugin is asked, and the phase waits for its reply.
+abbrev pub AsksIn : {Q : Type 0} → Phase → Course Q → Type 0
+AsksIn old (K.Phased new) = MayAsk old new
+AsksIn old new = ⊥
+
+-- nothing is done, or a plugin is asked
+abbrev pub StaysOrAsks : {Q : Type 0} → Phase → Course Q → Type 0
+StaysOrAsks {Q} old new = (new ≡ K.Phased old) ⊎ AsksIn old new
 
 -- a transaction that closes ends so, and nothing else comes of it
 abbrev pub ClosesAs : {Q : Type 0} → Phase → Course Q → Type 0
@@ -89,15 +106,17 @@ module _ {C O Q : Type 0} (client : link.Ghosts C) (origin : link.Ghosts O) (bot
   -- where the step of a phase leads: to one that may follow, and the faults and the waits of the links are
   -- minded
   abbrev pub MindsCourse : Phase → Next → Course Q → Type 0
-  MindsCourse old next (K.Phased new) =
-      MayFollow old new × MindsLinksIn client origin both s t old (record { phase = new; next = next })
-  MindsCourse old next (K.Relaying r) = BeginsIn old (view_of client origin s) (view_of client origin t)
+  MindsCourse old next (K.Phased new) = MayFollow (arc_value s.setup).plugins.items old new
+      × MindsLinksIn client origin both s t old (record { phase = new; next = next })
+  MindsCourse old next (K.Relaying r) =
+      BeginsIn (arc_value s.setup).plugins.items old (view_of client origin s) (view_of client origin t)
   MindsCourse old next (K.Finishing end) = ⊥
 
-  -- In a phase nothing is done, or the links are minded, and it waits for nothing else; nothing but the
-  -- request and its upload is sent to the origin; and a transaction that was started stays so.
+  -- In a phase nothing is done, or a plugin is asked, or the links are minded, and it waits for nothing else;
+  -- nothing but the request and its upload is sent to the origin; and a transaction that was started stays
+  -- so.
   pub record TakesStep (old : Phase) (next : Next) (new : Course Q) : Type 0 where
-    pub minds : (new ≡ K.Phased (P.Ended E.NoMemory)) ⊎ ((t ≡ s) × (new ≡ K.Phased old))
+    pub minds : (new ≡ K.Phased (P.Ended E.NoMemory)) ⊎ ((t ≡ s) × StaysOrAsks old new)
         ⊎ MindsCourse old next new
     pub waits : WaitsRightly next (view_of client origin s) (view_of client origin t)
     pub leaves : IfTold client.tells origin.tells

@@ -1,3 +1,4 @@
+pub mod Asking
 pub mod Course
 pub mod CourseCover
 pub mod Driven
@@ -8,4 +9,5 @@ pub mod MemNet
 pub mod Net
 pub mod PairStock
 pub mod Resting
+pub mod Sending
 pub mod World

@@ -10,12 +10,14 @@ use Rattle.ts_link.specs.declared.link.Link as link
 use Rattle.ts_upstream.specs.declared.upstream.Upstream as upstream
 use Rattle.ts_transform.specs.declared.transform.Transform as transform
 use Rattle.ts_phases.specs.Holding.{IfTold}
-use Rattle.ts_phases.specs.Lowering.{number_left, work_left}
+use Rattle.ts_link.specs.Link.{NoMore}
+use Rattle.ts_phases.specs.Lowering.{enter_left, number_left, work_left}
 use Rattle.ts_relay.specs.LoweringBody.{IsOfLines, finish_left, relay_left}
 use Rattle.ts_phases.specs.View.{View, upload_of, view_of}
 use Rattle.ts_txn.specs.declared.course.Course.{Course}
 use Rattle.ts_txn.specs.declared.course.Course.TheVariants as K
 use Rattle.ts_phases.specs.declared.parts.Core.{Core}
+use Rattle.ts_phases.specs.declared.phase.Phase.{Phase}
 
 module _ {Q : Type 0} (setup : Setup) (rest : Q → List ℕ → List ℕ) where
   -- what is left to do, by how far the transaction is
@@ -34,6 +36,13 @@ module _ {Q : Type 0} (setup : Setup) (rest : Q → List ℕ → List ℕ) where
 abbrev pub number_if : Bool → Option ℕ → Option ℕ
 number_if true n = n
 number_if false n = None
+
+module _ {C O : Type 0} (client : link.Ghosts C) (origin : link.Ghosts O) (both : upstream.Ghosts O C) where
+  -- what is left in a phase pays for the body that begins behind it
+  abbrev pub PaysToEnter : Core C O → Phase → Type 0
+  PaysToEnter core phase =
+      NoMore (work_left (arc_value core.setup) (upload_of both core) (view_of client origin core) phase)
+      (enter_left (arc_value core.setup) (view_of client origin core))
 
 module _ {C O Q : Type 0} (client : link.Ghosts C) (origin : link.Ghosts O) (both : upstream.Ghosts O C)
     (stage : transform.Ghosts Q TransformLine) where

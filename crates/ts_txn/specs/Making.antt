@@ -1,6 +1,7 @@
 -- A transaction as it is made, and what is left of it once it is taken apart.
 use Rattle.std.specs.Prelude.{◌≡◌, ℕ, ◌+◌, ◌≤◌, [], length, Option, Some, None, ⊤}
 use Rattle.ts_config.specs.Bytes.{most_transforms}
+use Rattle.ts_block.specs.Sent.{HasPlainRules}
 use Rattle.ts_config.specs.declared.setup.Setup.{Setup}
 use Rattle.ts_hooks.specs.declared.txn_end.TxnEnd.{TxnEnd}
 use Rattle.ts_link.specs.Link.{Look}
@@ -17,6 +18,12 @@ pub record HasFewLines (setup : Setup) (plugins_at : ℕ) : Type 0 where
   pub transforms : length setup.transforms.items ≤ most_transforms
   pub plugins : length setup.plugins.items ≤ MOST_PLUGINS
   pub groups : plugins_at + length setup.plugins.items ≤ MOST_GROUPS
+
+-- a setup that a transaction takes: it has few lines, and its header rules leave alone what the proxy sees to
+-- itself
+pub record IsTxnSetup (setup : Setup) (plugins_at : ℕ) : Type 0 where
+  pub few : HasFewLines setup plugins_at
+  pub plain : HasPlainRules setup
 
 -- a link that gave nothing and took nothing
 pub record IsNewLink (l : Look) : Type 0 where

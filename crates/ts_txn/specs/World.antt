@@ -1,24 +1,27 @@
 -- What holds of a transaction in its group between calls, and of which transaction a tag speaks.
-use Rattle.std.specs.Prelude.{◌≡◌, ℕ, List, true, false, Option, Some, None, ⊤}
+use Rattle.std.specs.Prelude.{◌≡◌, ℕ, List, true, false, Option, Some, None, Ok, ⊤}
 use Rattle.std.specs.Arc.{arc_value}
 use Rattle.ts_config.specs.declared.setup.TransformLine.{TransformLine}
 use Rattle.ts_journal.specs.declared.entry.Pending.{Pending}
 use Rattle.ts_group.specs.Context.{Context}
 use Rattle.ts_group.specs.declared.action.Named.{Named}
 use Rattle.ts_group.specs.declared.group.Group.{Group}
+use Rattle.ts_hooks.specs.declared.hook.HookAnswer.TheVariants.{Continue}
+use Rattle.ts_plugin.specs.declared.question.HookQuestion.{HookQuestion}
+use Rattle.ts_plugin.specs.declared.question.HookReply.{HookReply}
 use Rattle.ts_link.specs.Link.{IsSure, Look}
 use Rattle.ts_link.specs.declared.link.Link as link
 use Rattle.ts_upstream.specs.declared.upstream.Upstream as upstream
 use Rattle.ts_transform.specs.declared.transform.Transform as transform
 use Rattle.ts_transform.specs.declared.continuation.StageContinuation.{StageContinuation}
 use Rattle.ts_relay.specs.BodyLinks.{HoldsLittle}
-use Rattle.ts_txn.specs.Course.{CourseHolds}
+use Rattle.ts_txn.specs.Course.{CourseHolds, StandsForCauseOn}
 use Rattle.ts_txn.specs.CourseCover.{IsCoveredOn, StaysOnOrLacks, is_fresh_on}
 use Rattle.ts_relay.specs.Entering.{ActsAsLines}
-use Rattle.ts_phases.specs.Holding.{IfTold, IsSameLink}
+use Rattle.ts_phases.specs.Holding.{HasTable, IfTold, IsSameLink}
 use Rattle.ts_txn.specs.LoweringCourse.{IsOfLinesOn}
-use Rattle.ts_txn.specs.Making.{HasFewLines}
-use Rattle.ts_phases.specs.View.{IsPaired, View, view_of}
+use Rattle.ts_txn.specs.Making.{IsTxnSetup}
+use Rattle.ts_phases.specs.View.{IsPaired, View, side_if, view_of}
 use Rattle.ts_txn.specs.declared.course.Course.{Course}
 use Rattle.ts_txn.specs.declared.course.Course.TheVariants as K
 use Rattle.ts_phases.specs.declared.parts.Core.{Core}
@@ -41,14 +44,17 @@ module _ {C O Q : Type 0} (client : link.Ghosts C) (origin : link.Ghosts O) (bot
     (stage : transform.Ghosts Q TransformLine) where
   -- What its step may count on: it is where it is with right where its links tell, they belong together, the
   -- transforms do what the lines say, and a body that is passed on goes through such, with little of it held
-  -- before them; and each of its hook plugins has a group.
+  -- before them; its setup is one that a transaction takes, and its hooks have the plugins of the lines; and
+  -- whether its links tell or not, an end for the fault of one has that cause.
   pub record HoldsOn (core : Core C O) (course : Course Q) : Type 0 where
     pub holds : CourseHolds client origin both stage core course
     pub pair : IsPaired both core
     pub acts : ActsAsLines stage.whole
     pub lines : IsOfLinesOn (arc_value core.setup) stage.rest course
     pub little : IfTold client.tells origin.tells (HoldsLittleOn (view_of client origin core) course)
-    pub few : HasFewLines (arc_value core.setup) core.plugins_at
+    pub setup : IsTxnSetup (arc_value core.setup) core.plugins_at
+    pub hooks : HasTable core
+    pub causes : StandsForCauseOn (view_of client origin core) course
 
   -- so it stands, and each of its duties has an event
   pub record IsSoundOn (core : Core C O) (main : Option StageContinuation) (course : Course Q)
@@ -80,9 +86,15 @@ IsSameLinkIf look None (Some p) = ⊥
 IsSameLinkIf look (Some l) None = ⊥
 IsSameLinkIf look (Some l) (Some p) = IsSameLink (look l) (look p.link)
 
+-- how many faults the link has met, if there is one
+abbrev pub faults_if : {L : Type 0} → (L → Look) → Option L → ℕ
+faults_if look None = 0
+faults_if look (Some l) = (look l).faults
+
 -- The transaction is the one that the tag names, between the links that the tag shows as they were made: they
--- keep their sources, names and plans, and so where they stall and leave. Where the tag says so, no call of
--- them fails or waits by its number, and the transaction was started.
+-- keep their sources, names and plans, and so where they stall and leave; and their faults are counted from
+-- then on. Where the tag says so, no call of them fails or waits by its number, and the transaction was
+-- started.
 pub record IsTxnOf {C O Q : Type 0} (clook : C → Look) (olook : O → Look)
     (tag : TxnTag C O) (t : Txn C O Q) : Type 0 where
   pub number : t.core.number ≡ tag.number
@@ -90,6 +102,8 @@ pub record IsTxnOf {C O Q : Type 0} (clook : C → Look) (olook : O → Look)
   pub plugins_at : t.core.plugins_at ≡ tag.plugins_at
   pub client : IsSameLink (clook tag.client.value) (clook t.core.client.link)
   pub origin : IsSameLinkIf olook tag.origin.value t.core.origin
+  pub client_base : t.core.client.base ≡ (clook tag.client.value).faults
+  pub origin_base : (side_if olook t.core.origin).base ≡ faults_if olook tag.origin.value
   pub sure : tag.sure ≡ true → IsSure (clook t.core.client.link) × IsSureIf olook t.core.origin
   pub started : tag.started ≡ true → is_fresh_on t.course ≡ false
 
@@ -99,3 +113,8 @@ pub record HasTxnBegun {C O Q : Type 0} (old new : Txn C O Q) : Type 0 where
   pub begun : is_fresh_on old.course ≡ true → StaysOnOrLacks (K.Phased P.TxnStart) new.course
   pub same : is_fresh_on old.course ≡ false → new ≡ old
   pub started : is_fresh_on new.course ≡ false
+
+-- Whoever asks it may continue, with the fields as they are: a transaction stands at no hook.
+pub record LetsContinue (question : HookQuestion) (reply : HookReply) : Type 0 where
+  pub answer : reply.answer ≡ Ok Continue
+  pub fields : reply.fields ≡ question.fields

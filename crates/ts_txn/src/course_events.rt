@@ -5,6 +5,7 @@ ghost use Rattle.ts_group.specs.Calls.{IsCalled};
 ghost use Rattle.ts_txn.specs.CourseCover.{IsAlone, PassesNoBody};
 ghost use Rattle.ts_txn.specs.EventsOwed.{EventOwes};
 ghost use Rattle.ts_txn.specs.LoweringCourse.{PaysEvents};
+ghost use Rattle.ts_transform.specs.Driving.{unroused};
 ghost use Rattle.ts_txn.specs.World.{HoldsOn, IsSoundOn};
 
 use crate::course::{Course, enter_relay, write_rest};
@@ -14,53 +15,45 @@ use ts_config::TransformLine;
 use ts_group::{Cx, Want};
 use ts_journal::Event;
 use ts_link::Link;
-use ts_phases::{Core, Phase};
+use ts_phases::{Core, Led, Phase};
+use ts_plugin::HookQuestion;
 use ts_relay::{MAIN, handle_body};
 use ts_transform::{StageContinuation, Transform, unrouse, works};
 use ts_upstream::Upstream;
 
-// Makes the step of a phase at which no body begins, and answers where the transaction is then.
-fn make_step<C: Link, O: Upstream<C>, P: Transform<Line = TransformLine> + Drop>(
-    core: &mut Core<C, O>,
-    main: &mut Option<StageContinuation>,
-    phase: Phase,
-    cx: &mut Cx,
-) -> Course<P>
-    requires turn { cx.old.log.state.held ≡ true }
-    requires stands { HoldsOn C.Link O.Link O.Upstream.own P.Transform
-        core.old (Course.Phased phase) }
-    requires alone { IsAlone main.old cx.old }
-    ensures owes { EventOwes C.Link O.Link O.Upstream.own P.Transform core.old core.new cx.old cx.new
-        MAIN main.old main.new (Course.Phased phase) result Want.Nothing }
-    ensures pays { PaysEvents C.Link O.Link O.Upstream.own P.Transform
-        core.old core.new (Course.Phased phase) result cx.old cx.new }
-{
-    let step = core.step(phase);
-    after_step(step, main, cx)
-}
-
-// Makes the step of a phase, and answers where the transaction is then, and what it wants: at one phase its
-// body begins.
+// Makes the next step of a phase, and answers where the transaction is then, and what it wants: the step was
+// made, or a plugin of the phase's hook is asked, or the body of a response begins.
 fn advance_phase<C: Link, O: Upstream<C>, P: Transform<Line = TransformLine> + Drop>(
     core: &mut Core<C, O>,
     main: &mut Option<StageContinuation>,
     phase: Phase,
     cx: &mut Cx,
-) -> (Course<P>, Want<()>)
+) -> (Course<P>, Want<HookQuestion>)
     requires turn { cx.old.log.state.held ≡ true }
     requires stands { HoldsOn C.Link O.Link O.Upstream.own P.Transform
         core.old (Course.Phased phase) }
     requires alone { IsAlone main.old cx.old }
+    requires quiet { unroused main.old ≡ main.old }
     ensures owes { EventOwes C.Link O.Link O.Upstream.own P.Transform core.old core.new cx.old cx.new
         MAIN main.old main.new (Course.Phased phase) result.0 result.1 }
     ensures pays { PaysEvents C.Link O.Link O.Upstream.own P.Transform
         core.old core.new (Course.Phased phase) result.0 cx.old cx.new }
 {
-    match phase {
-        Phase::ResponseTransform { request, head } => {
-            (enter_relay(core, main, request, head, cx), Want::Nothing)
-        }
-        phase => (make_step(core, main, phase, cx), Want::Nothing),
+    match core.lead(phase) {
+        Led::Steps(step) => (after_step(step, main, cx), Want::Nothing),
+        Led::Asks {
+            phase,
+            group,
+            question,
+        } => (Course::Phased(phase), Want::Ask { group, question }),
+        Led::Enters {
+            request,
+            head,
+            fields,
+        } => (
+            enter_relay(core, main, request, head, fields, cx),
+            Want::Nothing,
+        ),
     }
 }
 
@@ -71,12 +64,13 @@ fn make_next<C: Link, O: Upstream<C>, P: Transform<Line = TransformLine> + Drop>
     main: &mut Option<StageContinuation>,
     course: &mut Course<P>,
     cx: &mut Cx,
-) -> (Course<P>, Want<()>)
+) -> (Course<P>, Want<HookQuestion>)
     requires turn { cx.old.log.state.held ≡ true }
     requires none { PassesNoBody course.old }
     requires stands { HoldsOn C.Link O.Link O.Upstream.own P.Transform
         core.old course.old }
     requires alone { IsAlone main.old cx.old }
+    requires quiet { unroused main.old ≡ main.old }
     ensures owes { EventOwes C.Link O.Link O.Upstream.own P.Transform core.old core.new cx.old cx.new
         MAIN main.old main.new course.old result.0 result.1 }
     ensures pays { PaysEvents C.Link O.Link O.Upstream.own P.Transform
@@ -101,7 +95,7 @@ fn advance_alone<C: Link, O: Upstream<C>, P: Transform<Line = TransformLine> + D
     role: u32,
     event: Event,
     cx: &mut Cx,
-) -> Want<()>
+) -> Want<HookQuestion>
     requires turn { cx.old.log.state.held ≡ true }
     requires none { PassesNoBody course.old }
     requires called { IsCalled
@@ -134,7 +128,7 @@ pub fn advance<C: Link, O: Upstream<C>, P: Transform<Line = TransformLine> + Dro
     role: u32,
     event: Event,
     cx: &mut Cx,
-) -> Want<()>
+) -> Want<HookQuestion>
     requires turn { cx.old.log.state.held ≡ true }
     requires called { IsCalled
         (λ s roles. IsSoundOn C.Link O.Link O.Upstream.own P.Transform

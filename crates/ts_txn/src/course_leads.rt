@@ -5,7 +5,9 @@ ghost use Rattle.ts_transform.specs.Driving.{ActsWithin, HasLiveIf, IsDueAfter, 
 ghost use Rattle.ts_transform.specs.Seats.{KeepsSeated};
 ghost use Rattle.ts_txn.specs.Course.{course_after, course_led, finish_after};
 ghost use Rattle.ts_phases.specs.Cover.{Proceeds, StepLeads, set_after};
-ghost use Rattle.ts_txn.specs.CourseCover.{CoversAlone, CoversLed, HasRousedNext, LedAfter, LedBehind, PassesBody, SetsOneOrNone, StaysOnOrLacks, StaysWhereNamed, StaysWhereSpent, pause_after};
+ghost use Rattle.ts_txn.specs.CourseCover.{CoversAlone, CoversLed, HasRousedNext, LedAfter, LedBehind};
+ghost use Rattle.ts_txn.specs.CourseCover.{PassesBody, SetsOneOrNone, StaysOnOrLacks, StaysWhereNamed};
+ghost use Rattle.ts_txn.specs.CourseCover.{StaysWhereSpent, pause_after};
 ghost use Rattle.ts_relay.specs.Duties.{set_leaving};
 ghost use Rattle.ts_txn.specs.Driven.{LeadsRelay, delay_of, is_passed_on};
 

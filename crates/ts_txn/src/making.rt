@@ -6,10 +6,14 @@ ghost use Rattle.ts_group.specs.declared.action.Named.{Named};
 ghost use Rattle.ts_hooks.specs.declared.txn_end.TxnEnd.{TxnEnd};
 ghost use Rattle.ts_journal.specs.declared.entry.Pending.{Pending};
 ghost use Rattle.ts_journal.specs.declared.entry.TheConstants.{GREATEST};
+ghost use Rattle.ts_phases.specs.Causes.{HasCause};
+ghost use Rattle.ts_phases.specs.View.{view_of};
 ghost use Rattle.ts_txn.specs.CourseCover.{is_fresh_on};
 ghost use Rattle.ts_relay.specs.Entering.{ActsAsLines};
-ghost use Rattle.ts_txn.specs.Making.{ArePaired, HasFewLines, IsMadeOf, IsMadeOfIf, IsNewLink, IsNewLinkIf, base_if, end_of_course, end_of_phase, link_if};
+ghost use Rattle.ts_txn.specs.Making.{ArePaired, IsMadeOf, IsMadeOfIf, IsNewLink, IsNewLinkIf, IsTxnSetup};
+ghost use Rattle.ts_txn.specs.Making.{base_if, end_of_course, end_of_phase, link_if};
 ghost use Rattle.ts_txn.specs.Resting.{HasEndedSo, RestsWithBlock};
+ghost use Rattle.ts_txn.specs.Sending.{TxnSendsOnce};
 ghost use Rattle.ts_txn.specs.World.{IsSoundTxn};
 
 use crate::course::Course;
@@ -21,6 +25,7 @@ use ts_hooks::TxnEnd;
 use ts_iobuf::Waiting;
 use ts_link::{Link, NoMemory};
 use ts_phases::{Core, Peer, Phase, Sent};
+use ts_plugin::table_of;
 use ts_transform::Transform;
 use ts_upstream::Upstream;
 use ts_wire::Mode;
@@ -87,7 +92,8 @@ impl<C: Link + Drop, O: Upstream<C> + Drop, P: Transform<Line = TransformLine> +
     P,
 > {
     /// A transaction between a client and an origin, which were not used. It was not started. Its hook
-    /// plugins have the groups from `plugins_at` on.
+    /// plugins have the groups from `plugins_at` on; its setup has few lines, and their header rules leave
+    /// alone what the proxy sees to itself.
     #[tactic(auto, using(crate::proofs::Made::sound))]
     pub fn make(
         alloc: Global,
@@ -97,7 +103,7 @@ impl<C: Link + Drop, O: Upstream<C> + Drop, P: Transform<Line = TransformLine> +
         client: C,
         origin: Option<O>,
     ) -> Result<Txn<C, O, P>, NoMemory>
-        requires few { HasFewLines (arc_value setup) plugins_at }
+        requires setup { IsTxnSetup (arc_value setup) plugins_at }
         requires acts { ActsAsLines P.whole }
         requires client { C.tells ≡ true → IsNewLink (C.look client) }
         requires origin { O.tells ≡ true → IsNewLinkIf O.look origin }
@@ -109,6 +115,7 @@ impl<C: Link + Drop, O: Upstream<C> + Drop, P: Transform<Line = TransformLine> +
         ensures sound { IfOk result (λ t. (next : ℕ) (roles : List Named) →
             IsSoundTxn C.Link O.Link O.Upstream.own P.Transform t [] next roles) }
     {
+        let hooks = table_of(alloc, setup.plugins.as_slice(), plugins_at)?;
         let client = make_peer(alloc, client)?;
         let origin = make_peer_if(alloc, origin)?;
         let core = Core {
@@ -116,6 +123,7 @@ impl<C: Link + Drop, O: Upstream<C> + Drop, P: Transform<Line = TransformLine> +
             number,
             setup,
             plugins_at,
+            hooks,
             client,
             origin,
             sent: Sent {
@@ -132,7 +140,10 @@ impl<C: Link + Drop, O: Upstream<C> + Drop, P: Transform<Line = TransformLine> +
     }
 
     /// How it ended; nothing while it has not. Once nothing of its group is pending, a transaction that was
-    /// started has ended, or the event numbers are used up.
+    /// started has ended, or the event numbers are used up. Whether the links tell or not, it ended for the
+    /// fault of one only where that one has failed since the transaction was made. Where both links tell, what
+    /// a transaction sends, header rules included, is one request to its origin and one response to its client
+    /// at most.
     pub fn end(&self) -> Option<TxnEnd>
         ensures end { result ≡ end_of_course self.now.course }
         ensures rests { result ≡ None → is_fresh_on self.now.course ≡ false → (next : ℕ) (roles : List Named)
@@ -144,10 +155,19 @@ impl<C: Link + Drop, O: Upstream<C> + Drop, P: Transform<Line = TransformLine> +
             → IsSoundTxn C.Link O.Link O.Upstream.own P.Transform
             self.now pending next roles
             → HasEndedSo C.Link O.Link O.Upstream.own self.now end }
+        ensures causes { (end : TxnEnd) → result ≡ Some end
+            → (pending : List Pending) (next : ℕ) (roles : List Named)
+            → IsSoundTxn C.Link O.Link O.Upstream.own P.Transform
+            self.now pending next roles
+            → HasCause (view_of C.Link O.Link self.now.core) end }
         ensures block { (next : ℕ) (roles : List Named)
             → IsSoundTxn C.Link O.Link O.Upstream.own P.Transform
             self.now [] next roles
             → RestsWithBlock C.Link O.Link O.Upstream.own self.now next }
+        ensures once { (pending : List Pending) (next : ℕ) (roles : List Named)
+            → IsSoundTxn C.Link O.Link O.Upstream.own P.Transform
+            self.now pending next roles
+            → TxnSendsOnce C.Link O.Link self.now }
     {
         end_of_course(&self.course)
     }
@@ -190,6 +210,7 @@ impl<C: Link + Drop, O: Upstream<C> + Drop, P: Transform<Line = TransformLine> +
             number: _,
             setup: _,
             plugins_at: _,
+            hooks: _,
             client,
             origin,
             sent,

@@ -2,8 +2,10 @@
 ghost use Rattle.std.specs.Prelude.{◌≡◌, true, OnOk, OnErr};
 ghost use Rattle.std.specs.List.{All};
 ghost use Rattle.ts_link.specs.Numbered.{is_listed};
-ghost use Rattle.ts_txn.specs.MemNet.{accept_answer, after_accept, after_dial, after_retire, dial_answer, fresh_net, seen_of};
-ghost use Rattle.ts_txn.specs.Net.{CountsRise, GivesClient, GivesNobody, GivesOrigin, IsFreshNet, IsHanded, IsHandedNothing, raised_by_accept, raised_by_begin, raised_by_dial};
+ghost use Rattle.ts_txn.specs.MemNet.{accept_answer, after_accept, after_dial, after_retire, dial_answer};
+ghost use Rattle.ts_txn.specs.MemNet.{fresh_net, seen_of};
+ghost use Rattle.ts_txn.specs.Net.{CountsRise, GivesClient, GivesNobody, GivesOrigin, IsFreshNet, IsHanded};
+ghost use Rattle.ts_txn.specs.Net.{IsHandedNothing, raised_by_accept, raised_by_begin, raised_by_dial};
 ghost use Rattle.ts_txn.specs.PairStock.{IsNewPair};
 ghost use Rattle.ts_upstream.specs.InMemory.{memory_link, memory_origin};
 

@@ -1,7 +1,9 @@
 //! The net, from which clients come, over which an origin is dialed for each of them, and to which what is
 //! left of their transactions is handed.
 ghost use Rattle.std.specs.Prelude.{◌≡◌, Bool, OnOk, OnErr};
-ghost use Rattle.ts_txn.specs.Net.{CountsRise, GivesClient, GivesNobody, GivesOrigin, IsHanded, IsHandedNothing, NetSeen, raised_by_accept, raised_by_begin, raised_by_dial};
+ghost use Rattle.ts_txn.specs.Net.{CountsRise, GivesClient, GivesNobody, GivesOrigin, IsHanded};
+ghost use Rattle.ts_txn.specs.Net.{IsHandedNothing, NetSeen, raised_by_accept, raised_by_begin};
+ghost use Rattle.ts_txn.specs.Net.{raised_by_dial};
 
 use crate::retired::Retired;
 use ts_link::{Link, NoMemory};

@@ -1,25 +1,29 @@
 //! A transaction as the world of a mutex group.
 ghost use Rattle.std.specs.Prelude.{◌≡◌, ⊤, true, false, [], None, refl, ℕ};
-ghost use Rattle.ts_group.specs.declared.world.Want.TheVariants as Want;
-ghost use Rattle.ts_group.specs.Answers.{Falls};
+ghost use Rattle.ts_group.specs.Answers.{Falls, Hears, IsAnswered, MatchWant};
 ghost use Rattle.ts_group.specs.Calls.{IsCalled};
-ghost use Rattle.ts_group.specs.Entries.{Grows};
+ghost use Rattle.ts_group.specs.declared.world.Want.TheVariants as Want;
+ghost use Rattle.ts_plugin.specs.declared.question.HookQuestion.{HookQuestion};
 ghost use Rattle.ts_transform.specs.Driving.{ActsWithin, IsDueAfter, SetsOnly};
+ghost use Rattle.ts_txn.specs.Asking.{AwaitsTxn, HearsTxn, IsRightFor, MayAskGroup, pause_told};
 ghost use Rattle.ts_txn.specs.CourseCover.{is_fresh_on, SetsOneOrNone};
 ghost use Rattle.ts_txn.specs.Driven.{HandlesEvent, TakesEvent};
 ghost use Rattle.ts_txn.specs.LoweringCourse.{transaction_left};
-ghost use Rattle.ts_txn.specs.World.{IsTxnOf, HasTxnBegun, IsSoundTxn, most_set};
+ghost use Rattle.ts_txn.specs.World.{IsTxnOf, HasTxnBegun, IsSoundTxn, LetsContinue, most_set};
 
 use crate::continuation::begin;
 use crate::course::Course;
 use crate::course_events::advance;
-use crate::course_leads::AT_ONCE;
+use crate::course_leads::{AT_ONCE, after_step};
+use std::mem::replace;
 use std::snapshot::Snapshot;
 use ts_config::{Setup, TransformLine};
 use ts_group::{Asked, Cx, Want, World};
+use ts_hooks::HookAnswer;
 use ts_journal::{Event, Slotted};
 use ts_link::Link;
-use ts_phases::{Core, Phase};
+use ts_phases::{Core, Phase, told_step};
+use ts_plugin::{HookQuestion, HookReply};
 use ts_transform::{StageContinuation, Transform};
 use ts_upstream::Upstream;
 
@@ -87,21 +91,22 @@ impl<C: Link + Drop, O: Upstream<C> + Drop, P: Transform<Line = TransformLine> +
 
 impl<C: Link + Drop, O: Upstream<C> + Drop, P: Transform<Line = TransformLine> + Drop> World
     for Txn<C, O, P> {
-    type Question = ();
+    type Question = HookQuestion;
 
-    type Reply = ();
+    type Reply = HookReply;
 
     ghost sound = { λ t s roles.
         IsSoundTxn C.Link O.Link O.Upstream.own P.Transform t s.pending s.next roles };
 
+    // It stands so while a plugin that it asked has not replied.
     ghost asking = { λ t s roles role group question.
-        IsSoundTxn C.Link O.Link O.Upstream.own P.Transform t s.pending s.next roles };
+        AwaitsTxn C.Link O.Link O.Upstream.own P.Transform t s.pending s.next roles group question };
 
-    ghost right = { λ t group question reply. ⊤ };
+    ghost right = { IsRightFor };
 
-    ghost may_ask = { λ t group. ⊥ };
+    ghost may_ask = { MayAskGroup };
 
-    ghost answers = { λ t question reply. ⊤ };
+    ghost answers = { λ t question reply. LetsContinue question reply };
 
     // Where both links tell, each event that is handled lowers it.
     ghost left = { λ t s. transaction_left C.Link O.Link O.Upstream.own P.Transform
@@ -117,9 +122,10 @@ impl<C: Link + Drop, O: Upstream<C> + Drop, P: Transform<Line = TransformLine> +
     ghost called = { λ old new asked. TakesEvent C.Link O.Link O.Upstream.own
         old.core new.core old.course new.course };
 
-    ghost heard = { λ old new asked. new ≡ old };
+    // It is led on by what it was told, or has ended for want of memory.
+    ghost heard = { HearsTxn };
 
-    #[tactic(auto, using(crate::proofs::Fitting::fits_start))]
+    #[tactic(auto, using(crate::proofs::Promises::promises_start))]
     fn start(&mut self, cx: &mut Cx)
         requires turn { cx.old.log.state.held ≡ true }
         requires sound { IsSoundTxn C.Link O.Link O.Upstream.own P.Transform
@@ -137,16 +143,19 @@ impl<C: Link + Drop, O: Upstream<C> + Drop, P: Transform<Line = TransformLine> +
         self.course = begin(&mut self.main, cx);
     }
 
-    #[tactic(auto, using(crate::proofs::Fitting::fits_event))]
-    fn handle(&mut self, role: u32, event: Event, cx: &mut Cx) -> Want<()>
+    #[tactic(auto, using(crate::proofs::Promises::promises_event))]
+    fn handle(&mut self, role: u32, event: Event, cx: &mut Cx) -> Want<HookQuestion>
         requires turn { cx.old.log.state.held ≡ true }
         requires called { IsCalled
             (λ s roles. IsSoundTxn C.Link O.Link O.Upstream.own P.Transform
             self.old s.pending s.next roles)
             cx.old role event }
-        ensures sound { IsSoundTxn C.Link O.Link O.Upstream.own P.Transform
-            self.new cx.new.log.state.pending cx.new.log.state.next cx.new.roles }
-        ensures nothing { result ≡ Want.Nothing }
+        ensures keeps { MatchWant result
+            (IsSoundTxn C.Link O.Link O.Upstream.own P.Transform
+            self.new cx.new.log.state.pending cx.new.log.state.next cx.new.roles)
+            (λ group question. AwaitsTxn C.Link O.Link O.Upstream.own P.Transform
+            self.new cx.new.log.state.pending cx.new.log.state.next cx.new.roles group question
+            × MayAskGroup self.new group) }
         ensures within { ActsWithin most_set cx.old cx.new }
         ensures handles { HandlesEvent C.Link O.Link O.Upstream.own
             self.old.core self.new.core cx.old cx.new role self.old.main self.old.course self.new.course }
@@ -160,6 +169,8 @@ impl<C: Link + Drop, O: Upstream<C> + Drop, P: Transform<Line = TransformLine> +
             self.old.core self.old.course c.before.pending) 1
             (transaction_left C.Link O.Link O.Upstream.own P.Transform
             self.new.core self.new.course cx.new.log.state.pending) }
+        ensures rests { (group : ℕ) (question : HookQuestion) → result ≡ Want.Ask group question
+            → cx.new ≡ cx.old }
     {
         advance(
             &mut self.core,
@@ -171,18 +182,42 @@ impl<C: Link + Drop, O: Upstream<C> + Drop, P: Transform<Line = TransformLine> +
         )
     }
 
-    #[tactic(auto, using(ts_group::proofs::Grows::grows_refl, crate::proofs::LoweringCourse::hears_same))]
-    fn told(&mut self, _role: u32, _asked: Asked<(), ()>, _cx: &mut Cx)
-        requires turn { _cx.old.log.state.held ≡ true }
-        requires sound { IsSoundTxn C.Link O.Link O.Upstream.own P.Transform
-            self.old _cx.old.log.state.pending _cx.old.log.state.next _cx.old.roles }
-        ensures grows { Grows _cx.old _cx.new }
-        ensures same { (_cx.new.log.state ≡ _cx.old.log.state) × (_cx.new.roles ≡ _cx.old.roles)
-            × (self.new ≡ self.old) }
-    {}
+    #[tactic(auto, using(crate::proofs::Promises::promises_told))]
+    fn told(&mut self, _role: u32, asked: Asked<HookQuestion, HookReply>, cx: &mut Cx)
+        requires turn { cx.old.log.state.held ≡ true }
+        requires asking { IsAnswered
+            (AwaitsTxn C.Link O.Link O.Upstream.own P.Transform
+            self.old cx.old.log.state.pending cx.old.log.state.next cx.old.roles)
+            (IsRightFor self.old) asked }
+        ensures sound { IsSoundTxn C.Link O.Link O.Upstream.own P.Transform
+            self.new cx.new.log.state.pending cx.new.log.state.next cx.new.roles }
+        ensures within { SetsOneOrNone cx.old cx.new }
+        ensures hears { Hears HearsTxn
+            (λ t s. transaction_left C.Link O.Link O.Upstream.own P.Transform t.core t.course s.pending)
+            self.old self.new cx.old.log.state cx.new.log.state asked }
+        ensures due { SetsOnly (IsDueAfter (pause_told asked) cx.old.moment) cx.old cx.new }
+    {
+        let was = replace(&mut self.course, Course::Phased(Phase::Fresh));
+        let Course::Phased(phase) = was else {
+            unreachable!()
+        };
+        let step = told_step(phase, asked);
+        self.course = after_step(step, &mut self.main, cx);
+    }
 
+    // It stands at no hook: whoever asks it may continue, with the fields as they are.
     #[tactic(auto, using(crate::proofs::Handling::sound_asked, crate::proofs::LoweringCourse::asked_same))]
-    fn asked(&mut self, _question: (), _cx: &mut Cx) {}
+    fn asked(&mut self, question: HookQuestion, _cx: &mut Cx) -> HookReply {
+        let HookQuestion {
+            hook: _,
+            host: _host,
+            fields,
+        } = question;
+        HookReply {
+            answer: Ok(HookAnswer::Continue),
+            fields,
+        }
+    }
 
     ghost sound_taken = { λ t s turn seat roles h. h };
 

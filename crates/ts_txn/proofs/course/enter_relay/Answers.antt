@@ -9,11 +9,13 @@ use Rattle.ts_txn.specs.Course.{course_after}
 use Rattle.ts_relay.specs.Duties.{set_leaving}
 use Rattle.ts_link.specs.Link.{Look, NoMore}
 use Rattle.ts_relay.specs.LoweringBody.{IsOfLines, left_after, unbegun_left}
+use Rattle.ts_phases.specs.Lowering.{work_left}
 use Rattle.ts_phases.specs.View.{LinkSide, OriginRefuses, upload_of, view_of}
 use Rattle.ts_txn.specs.World.{most_set}
 use Rattle.ts_txn.specs.declared.course.Course.TheVariants as K
 use Rattle.ts_phases.specs.declared.phase.Phase.TheVariants as P
 use Rattle.ts_phases.specs.declared.phase.Next.TheVariants as N
+use Rattle.ts_txn.proofs.Causes.{begun_cause, enters_cause}
 use Rattle.ts_txn.proofs.CourseCalls.{stands_begun}
 use Rattle.ts_txn.proofs.CourseSeats.{ended_alone}
 use Rattle.ts_txn.proofs.Coursing.{after_led, course_settled, enters_settled, led_on, stays_on}
@@ -25,7 +27,7 @@ use Rattle.ts_txn.proofs.course.enter_relay.Goals as goal
 
 -- Memory lacked for the head.
 pub returns-in_default-clause-owes : goal.returns-in_default-clause-owes
-returns-in_default-clause-owes g c = record {
+returns-in_default-clause-owes g c = λ phase enters. record {
   keeps =
       let core = c.args.core.now in
       let new = c.queue_relay.new.core in
@@ -35,9 +37,15 @@ returns-in_default-clause-owes g c = record {
       (λ told also. course_settled g.C.Link g.O.Link g.O.Upstream g.P.Transform.rest core new
       (K.Phased (P.Ended E.NoMemory)) c.queue_relay.ensures.keeps
       (c.in_default.ensures.err told also)) tt (λ told also. tt)
+      (record {
+        counts = enters_cause g.C.Link g.O.Link g.O.Upstream core new c.queue_relay.ensures.keeps
+            c.requires.stands.causes.counts c.queue_relay.ensures.quiet;
+        ends = tt;
+      })
       (ended_alone (P.Ended E.NoMemory) (K.Phased (P.Ended E.NoMemory)) c.args.main.now c.destroy_end.new.slot
       c.args.cx.now c.destroy_end.new.cx refl refl c.destroy_end.ensures.clears
       c.destroy_end.ensures.none c.requires.alone (view_of g.C.Link g.O.Link new));
+  rests = tt;
   within =
       acts_then 0 0 most_set (omega arith) (acts_none 0 c.args.cx.now c.requires.turn)
       (cleared_acts (c.args.main.now ∷ []) c.args.cx.now c.destroy_end.new.cx
@@ -49,8 +57,8 @@ returns-in_default-clause-owes g c = record {
         keeps = c.queue_relay.ensures.keeps;
         handles = record {
           next = N.Go;
-          takes = takes_lost g.C.Link g.O.Link g.O.Upstream core new
-              (P.ResponseTransform c.args.request c.args.head) c.queue_relay.ensures.quiet;
+          takes = takes_lost g.C.Link g.O.Link g.O.Upstream core new phase c.args.request c.args.head enters
+              c.queue_relay.ensures.quiet;
           due = λ n p none there. absurd (c.destroy_end.ensures.clears.lessens.none n p none there);
         };
       };
@@ -63,7 +71,7 @@ begin_body-step-requires-clause-fact g c = λ told also.
     c.queue_relay.ensures.keeps (c.in-Ok.ensures.ok told also)
 
 pub returns-clause-owes : goal.returns-clause-owes
-returns-clause-owes g c = record {
+returns-clause-owes g c = λ phase enters. record {
   keeps =
       let core = c.args.core.now in
       let new = c.queue_relay.new.core in
@@ -88,9 +96,14 @@ returns-clause-owes g c = record {
       (little_begun v step c.in-Ok.made relay c.begin_body-step.ensures.lowers.first
       (c.in-Ok.ensures.lowers.little told also))
       (after_led step (course_after relay step) c.leave_body.result c.leave_body.ensures.course))
+      (begun_cause g.C.Link g.O.Link g.O.Upstream core new c.queue_relay.ensures.keeps
+      c.requires.stands.causes.counts relay c.leave_body.result c.queue_relay.ensures.quiet
+      (begin_led g.C.Link g.O.Link g.O.Upstream relay step c.leave_body.result
+      c.begin_body-step.ensures.begins.goes c.leave_body.ensures.course))
       (c.leave_body.ensures.covered v
       (stands_begun step v c.args.main.now c.begin_body-step.new.main relay c.args.cx.now
       c.begin_body-step.new.cx c.known.ensures c.begin_body-step.ensures.begins c.requires.alone));
+  rests = tt;
   within =
       let step = c.begin_body-step.result in
       let few : set_leaving step ≤ 1 = set_one step in
@@ -107,9 +120,8 @@ returns-clause-owes g c = record {
         keeps = c.queue_relay.ensures.keeps;
         handles = record {
           next = N.Go;
-          takes = takes_begin g.C.Link g.O.Link g.O.Upstream core new
-              (P.ResponseTransform c.args.request c.args.head) c.leave_body.result relay
-              c.queue_relay.ensures.quiet led;
+          takes = takes_begin g.C.Link g.O.Link g.O.Upstream core new phase c.args.request c.args.head
+              c.leave_body.result relay enters c.queue_relay.ensures.quiet led;
           due = due_begin g.C.Link g.O.Link g.O.Upstream c.args.main.now v c.leave_body.new.main
               c.args.cx.now
               c.begin_body-step.new.cx c.leave_body.new.cx c.begin_body-step.result relay c.leave_body.result
@@ -125,34 +137,34 @@ returns-clause-owes g c = record {
 }
 
 pub returns-in_default-clause-pays : goal.returns-in_default-clause-pays
-returns-in_default-clause-pays g c = λ told also.
+returns-in_default-clause-pays g c = λ phase kept told also.
     let core = c.args.core.now in
     let new = c.queue_relay.new.core in
     let few = c.destroy_end.ensures.clears.lessens.few.pending in
-    not_begun (arc_value core.setup) g.P.Transform.rest c.args.request c.args.head
-    (view_of g.C.Link g.O.Link core) (view_of g.C.Link g.O.Link new)
-    (upload_of g.O.Upstream core)
-    (upload_of g.O.Upstream new) c.args.cx.now.log.state.pending
-    c.destroy_end.new.cx.log.state.pending (ap (λ (l : Look). l.agains) c.queue_relay.ensures.quiet.client)
+    not_begun (arc_value core.setup) g.P.Transform.rest
+    (work_left (arc_value core.setup) (upload_of g.O.Upstream core) (view_of g.C.Link g.O.Link core) phase)
+    (view_of g.C.Link g.O.Link core) (view_of g.C.Link g.O.Link new) kept (upload_of g.O.Upstream new)
+    c.args.cx.now.log.state.pending c.destroy_end.new.cx.log.state.pending
+    (ap (λ (l : Look). l.agains) c.queue_relay.ensures.quiet.client)
     (ap (λ (s : LinkSide). s.look.agains) c.queue_relay.ensures.quiet.origin)
     (omega (arith, few))
 
 pub returns-clause-pays : goal.returns-clause-pays
-returns-clause-pays g c = λ told also.
+returns-clause-pays g c = λ phase kept told also.
     let core = c.args.core.now in
     let new = c.queue_relay.new.core in
     let made = c.in-Ok.made in
     let relay = c.begin_body-step.new.relay in
     let step = c.begin_body-step.result in
     let w = view_of g.C.Link g.O.Link new in
-    let kept = subst (λ x. NoMore (unbegun_left (arc_value x) g.P.Transform.rest w made)
+    let stays = subst (λ x. NoMore (unbegun_left (arc_value x) g.P.Transform.rest w made)
     (left_after (arc_value x) g.P.Transform.rest step w relay)) c.queue_relay.ensures.keeps.setup
     c.begin_body-step.ensures.lowers.falls in
-    begun_led (arc_value core.setup) g.P.Transform.rest c.args.request c.args.head step made relay
-    c.leave_body.result (view_of g.C.Link g.O.Link core) w
-    (upload_of g.O.Upstream core)
-    (upload_of g.O.Upstream new) c.args.cx.now.log.state.pending
+    begun_led (arc_value core.setup) g.P.Transform.rest
+    (work_left (arc_value core.setup) (upload_of g.O.Upstream core) (view_of g.C.Link g.O.Link core) phase)
+    (view_of g.C.Link g.O.Link core) w kept step made relay c.leave_body.result (upload_of g.O.Upstream new)
+    c.args.cx.now.log.state.pending
     c.begin_body-step.new.cx.log.state.pending c.leave_body.new.cx.log.state.pending
-    (c.in-Ok.ensures.lowers.falls told also) kept c.begin_body-step.ensures.begins.acts.few.pending
+    (c.in-Ok.ensures.lowers.falls told also) stays c.begin_body-step.ensures.begins.acts.few.pending
     (after_led step (course_after relay step) c.leave_body.result c.leave_body.ensures.course)
     c.leave_body.ensures.within.few.pending

@@ -6,6 +6,7 @@ use Rattle.ts_txn.specs.Course.{finish_after}
 use Rattle.ts_phases.specs.View.{OriginRefuses, upload_of, view_of}
 use Rattle.ts_txn.specs.World.{most_set}
 use Rattle.ts_txn.specs.declared.course.Course.TheVariants as K
+use Rattle.ts_txn.proofs.Causes.{write_cause}
 use Rattle.ts_txn.proofs.Coursing.{led_last}
 use Rattle.ts_txn.proofs.Handling.{little_last, sound_led}
 use Rattle.ts_txn.proofs.LoweringCourse.{finish_led, lines_last}
@@ -24,8 +25,12 @@ returns-clause-owes g c = record {
       g.P.Transform.rest v c.args.end c.send_rest-step.result
       (c.send_rest-step.ensures.leads told also))
       (lines_last (arc_value core.setup) g.P.Transform.rest c.args.end c.send_rest-step.result)
-      (λ told also. little_last _ v c.args.end c.send_rest-step.result) c.after_write.ensures.course
+      (λ told also. little_last _ v c.args.end c.send_rest-step.result)
+      (write_cause g.C.Link g.O.Link g.O.Upstream core new c.send_rest-step.ensures.keeps
+      c.requires.stands.causes.0 _ g.C.Link.tells c.args.end c.send_rest-step.result c.requires.stands.causes.1
+      c.send_rest-step.ensures.links) c.after_write.ensures.course
       (c.after_write.ensures.covered c.requires.alone v);
+  rests = tt;
   within =
       acts_then 0 1 most_set (omega arith) (acts_none 0 c.args.cx.now c.requires.turn)
       c.after_write.ensures.within;

@@ -7,7 +7,7 @@ use Rattle.ts_txn.specs.World.{most_set}
 use Rattle.ts_txn.proofs.Events.{idle}
 use Rattle.ts_txn.proofs.Handling.{alone_then, sound_other, sound_quiet}
 use Rattle.ts_txn.proofs.LoweringCourse.{stays_on}
-use Rattle.ts_txn.proofs.NextSteps.{owes_alone}
+use Rattle.ts_txn.proofs.NextSteps.{owes_alone, still_quiet}
 use Rattle.ts_txn.proofs.course_events.advance_alone.Goals as goal
 
 -- An event of another continuation.
@@ -16,6 +16,7 @@ returns-then-role-ne-MAIN-clause-owes g c = record {
   keeps = sound_other g.C.Link g.O.Link g.O.Upstream g.P.Transform c.args.core.now c.args.main.now
       c.args.course.now c.requires.none c.args.cx.now c.args.role c.args.event c.requires.called
       c.if-role-ne-MAIN.true;
+  rests = tt;
   within = acts_none most_set c.args.cx.now c.requires.turn;
   handles = idle g.C.Link g.O.Link g.O.Upstream c.args.core.now c.args.cx.now c.args.role c.args.main.now
       c.args.course.now c.requires.none;
@@ -31,6 +32,7 @@ returns-then-not-works-clause-owes g c = record {
   keeps = sound_quiet g.C.Link g.O.Link g.O.Upstream g.P.Transform c.args.core.now c.args.main.now
       c.args.course.now c.requires.none c.args.cx.now c.args.role c.args.event c.requires.called
       (sym c.works.ensures ∙ c.if-not-works.true);
+  rests = tt;
   within = acts_none most_set c.args.cx.now c.requires.turn;
   handles = idle g.C.Link g.O.Link g.O.Upstream c.args.core.now c.args.cx.now c.args.role c.args.main.now
       c.args.course.now c.requires.none;
@@ -46,6 +48,9 @@ make_next-is-requires-clause-alone g c =
     alone_then g.C.Link g.O.Link g.O.Upstream g.P.Transform c.args.core.now c.args.main.now c.args.course.now
     c.requires.none c.args.cx.now c.args.role c.args.event c.requires.called c.unrouse.new.slot
     c.unrouse.ensures
+
+pub make_next-is-requires-clause-quiet : goal.make_next-is-requires-clause-quiet
+make_next-is-requires-clause-quiet g c = still_quiet c.args.main.now c.unrouse.new.slot c.unrouse.ensures
 
 pub returns-clause-owes : goal.returns-clause-owes
 returns-clause-owes g c =

@@ -1,14 +1,13 @@
 -- An event lowers the number of its transaction, and leads it on its course.
+use Rattle.std.proofs.Common.{◌≡◌, subst}
+use Rattle.std.specs.Prelude.{⊤}
+use Rattle.ts_group.specs.Answers.{MatchWant}
 use Rattle.ts_txn.proofs.Events.{takes_event}
 use Rattle.ts_txn.proofs.LoweringCourse.{transaction_falls}
-use Rattle.ts_txn.proofs.NextSteps.{asks_nobody, sound_unasked}
 use Rattle.ts_txn.proofs.txn.TxnWorld.handle.Goals as goal
 
-pub returns-clause-sound : goal.returns-clause-sound
-returns-clause-sound g c = sound_unasked c.advance.result _ c.advance.ensures.owes.keeps
-
-pub returns-clause-nothing : goal.returns-clause-nothing
-returns-clause-nothing g c = asks_nobody c.advance.result _ c.advance.ensures.owes.keeps
+pub returns-clause-keeps : goal.returns-clause-keeps
+returns-clause-keeps g c = c.advance.ensures.owes.keeps
 
 pub returns-clause-takes : goal.returns-clause-takes
 returns-clause-takes g c =
@@ -24,3 +23,9 @@ returns-clause-lowers g c = λ call.
     call.before.pending c.args.cx.now.log.state.pending c.advance.new.cx.log.state.pending
     c.advance.ensures.owes.handles.keeps.setup (call.has.fewer call.sound.covered.plain)
     c.advance.ensures.pays
+
+-- an event that asks sets none
+pub returns-clause-rests : goal.returns-clause-rests
+returns-clause-rests g c = λ group question asks.
+    subst (λ want. MatchWant want ⊤ (λ group question. c.advance.new.cx ≡ c.args.cx.now)) asks
+    c.advance.ensures.owes.rests

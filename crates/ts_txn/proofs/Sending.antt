@@ -1,0 +1,83 @@
+-- A transaction whose links tell sends one request and one response at most, wherever it is on its course.
+use Rattle.std.proofs.Common.{◌≡◌, ◌∙◌, ℕ, List, ◌++◌, length, false, ap, sym, subst}
+use Rattle.std.specs.Arc.{arc_value}
+use Rattle.ts_config.specs.declared.setup.Setup.{Setup}
+use Rattle.ts_config.specs.declared.setup.TransformLine.{TransformLine}
+use Rattle.ts_journal.specs.declared.entry.Pending.{Pending}
+use Rattle.ts_group.specs.declared.action.Named.{Named}
+use Rattle.ts_link.specs.Link.{all_of}
+use Rattle.ts_link.specs.declared.link.Link as link
+use Rattle.ts_upstream.specs.declared.upstream.Upstream as upstream
+use Rattle.ts_transform.specs.declared.transform.Transform as transform
+use Rattle.ts_wire.specs.Frames.{frames}
+use Rattle.ts_wire.specs.declared.printed.ClientFraming.TheVariants as C
+use Rattle.ts_block.specs.Block.{framing_for, own_text, relayed_head, request_text}
+use Rattle.ts_block.specs.Own.{code_of, own_body}
+use Rattle.ts_block.specs.Sent.{HasPlainRules}
+use Rattle.ts_block.proofs.SentOnce.{answers_once, asks_once, relays_once, was_answered, was_read}
+use Rattle.ts_phases.specs.Ends.{AnyEnd, SomeText}
+use Rattle.ts_phases.specs.Ends as ends
+use Rattle.ts_phases.specs.Facts.{HasTook}
+use Rattle.ts_phases.specs.Facts as facts
+use Rattle.ts_phases.specs.View.{OriginRefuses, View, view_of}
+use Rattle.ts_txn.specs.Sending.{LinksTakeOnce, TakesOneRequest, TakesOneResponse, TxnSendsOnce}
+use Rattle.ts_txn.specs.Sending as sending
+use Rattle.ts_txn.specs.World.{IsSoundTxn}
+use Rattle.ts_txn.specs.declared.txn.Txn.{Txn}
+use Rattle.ts_txn.proofs.Coursing.{course_any}
+use Rattle.ts_txn.proofs.SentBodies.{own_answer_body, own_framed, own_pieces, relayed_body}
+
+module _ (setup : Setup) (plain : HasPlainRules setup) (refuses : Type 0) (v : View) where
+  takes_request : HasTook setup v → TakesOneRequest (all_of v.client.look) v.origin
+  takes_request (facts.OriginTook.nothing none idle) = sending.TakesOneRequest.nothing none idle
+  takes_request (facts.OriginTook.request q goes carries) =
+      sending.TakesOneRequest.request (request_text setup q.head q.target q.host) carries.upload
+      (record {
+        head = q.head;
+        rest = goes.knows.rest;
+        target = q.target;
+        host = q.host;
+        has = goes.knows.reads;
+        checked = goes.knows.passes;
+        sends = asks_once setup plain q.head q.target q.host
+            (was_read _ q.head goes.knows.rest goes.knows.reads) goes.knows.passes;
+      })
+      carries.text carries.behind
+
+  takes_response : SomeText setup refuses v → TakesOneResponse v.client v.sent.mode
+  takes_response (ends.SomeText.quiet h) = sending.TakesOneResponse.nothing h.no_taken h.no_waits
+  takes_response (ends.SomeText.own a cause h) =
+      sending.TakesOneResponse.response (own_text setup a.status) (own_pieces a.to_head a.status) false
+      (record {
+        status = code_of a.status;
+        framing = C.Sized (length (own_body a.status));
+        mode_is = h.plain;
+        sends = answers_once setup plain a.status;
+      })
+      (own_answer_body setup refuses v a cause)
+      (subst (λ m. v.client.look.taken ++ v.client.outbox
+      ≡ own_text setup a.status ++ frames m (own_pieces a.to_head a.status) false) (sym h.plain)
+      (h.text ∙ ap (λ ys. own_text setup a.status ++ ys) (own_framed a.to_head a.status)))
+  takes_response (ends.SomeText.relayed done fin sent r) =
+      sending.TakesOneResponse.response (relayed_head setup r.q.head r.h) r.text.pieces fin
+      (record {
+        status = r.h.status;
+        framing = framing_for setup r.q.head r.h;
+        mode_is = r.mode;
+        sends = relays_once setup plain r.q.head r.h (was_answered r.reads.from r.h _ r.reads.reads);
+      })
+      (relayed_body setup refuses v done fin sent r)
+      r.text.text
+
+  take_once : AnyEnd setup refuses v → LinksTakeOnce v
+  take_once any = record { request = takes_request any.took; response = takes_response any.text }
+
+module _ {C O Q : Type 0} (client : link.Ghosts C) (origin : link.Ghosts O) (both : upstream.Ghosts O C)
+    (stage : transform.Ghosts Q TransformLine) (t : Txn C O Q) where
+  pub sends_once : (pending : List Pending) (next : ℕ) (roles : List Named)
+      → IsSoundTxn client origin both stage t pending next roles → TxnSendsOnce client origin t
+  sends_once pending next roles sound told also =
+      take_once (arc_value t.core.setup) sound.stands.setup.plain (OriginRefuses client both t.core)
+      (view_of client origin t.core)
+      (course_any (arc_value t.core.setup) (OriginRefuses client both t.core) stage.rest
+      (view_of client origin t.core) t.course (sound.stands.holds told also))

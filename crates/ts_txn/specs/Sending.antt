@@ -1,0 +1,51 @@
+-- What a transaction sends, header rules included, where both links tell: one request to its origin, and one
+-- response to its client (RFC 9112, sections 2 to 7).
+use Rattle.std.specs.Prelude.{◌≡◌, ◌≢◌, ◌++◌, ℕ, ◌≤◌, List, [], length, Bool, true, All}
+use Rattle.ts_link.specs.Link.{all_of}
+use Rattle.ts_link.specs.declared.link.Link as link
+use Rattle.ts_wire.specs.Frames.{IsPiece, cut_body, frames}
+use Rattle.ts_wire.specs.Framing.{has_no_body}
+use Rattle.ts_wire.specs.declared.frames.Mode.{Mode}
+use Rattle.ts_wire.specs.declared.heads.RequestHead.{RequestHead}
+use Rattle.ts_wire.specs.declared.printed.ClientFraming.{ClientFraming}
+use Rattle.ts_wire.specs.declared.printed.ClientFraming.TheVariants as C
+use Rattle.ts_block.specs.Heads.{HasRequest}
+use Rattle.ts_block.specs.Relayed.{asks_head}
+use Rattle.ts_block.specs.Sent.{IsAnswer, IsAsked}
+use Rattle.ts_phases.specs.Holding.{IfTold}
+use Rattle.ts_phases.specs.View.{LinkSide, View, view_of}
+use Rattle.ts_txn.specs.declared.txn.Txn.{Txn}
+
+-- What the origin's link took, with what waits for it, is nothing, or the one request that the client's bytes
+-- begin with, and what an upload wrote behind it, once all of the request was taken.
+pub data TakesOneRequest (client : List ℕ) (origin : LinkSide) : Type 0 where
+  nothing : origin.look.taken ≡ [] → origin.outbox ≡ [] → TakesOneRequest client origin
+  request : (text upload : List ℕ) → IsAsked client text
+      → origin.look.taken ++ origin.outbox ≡ text ++ upload → (origin.outbox ≢ [] → upload ≡ [])
+      → TakesOneRequest client origin
+
+-- The pieces are of the body that a head of this status says, in the answer to the client's request: none is
+-- empty, together they are not longer than the length that is told, and to a HEAD request, or with a status
+-- that has no body, there are none (RFC 9112, section 6.3).
+pub record IsBodyOf (client : List ℕ) (status : ℕ) (said : ClientFraming) (pieces : List (List ℕ))
+    : Type 0 where
+  pub each : All IsPiece pieces
+  pub within : (n : ℕ) → said ≡ C.Sized n → length (cut_body pieces) ≤ n
+  pub none : (q : RequestHead) (rest : List ℕ) → HasRequest client q rest
+      → has_no_body status (asks_head q) ≡ true → pieces ≡ []
+
+-- What the client's link took, with what waits for it, is nothing, or the head of one response and pieces of
+-- its body, framed as that head says.
+pub data TakesOneResponse (client : LinkSide) (mode : Mode) : Type 0 where
+  nothing : client.look.taken ≡ [] → client.outbox ≡ [] → TakesOneResponse client mode
+  response : (head : List ℕ) (pieces : List (List ℕ)) (fin : Bool) → (answer : IsAnswer mode head)
+      → IsBodyOf (all_of client.look) answer.status answer.framing pieces
+      → client.look.taken ++ client.outbox ≡ head ++ frames mode pieces fin → TakesOneResponse client mode
+
+pub record LinksTakeOnce (v : View) : Type 0 where
+  pub request : TakesOneRequest (all_of v.client.look) v.origin
+  pub response : TakesOneResponse v.client v.sent.mode
+
+-- the same of a transaction whose links tell
+abbrev pub TxnSendsOnce : {C O Q : Type 0} → link.Ghosts C → link.Ghosts O → Txn C O Q → Type 0
+TxnSendsOnce client origin t = IfTold client.tells origin.tells (LinksTakeOnce (view_of client origin t.core))
