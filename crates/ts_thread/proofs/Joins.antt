@@ -1,11 +1,16 @@
 -- Seats and passes that are split among threads and joined again.
-use Rattle.std.proofs.Common.{◌≡◌, ℕ, zero, suc, ◌+◌, ◌-◌, ◌*◌, ◌≤◌, inl, inr, List, [], ◌∷◌, ◌++◌, length, length-append, sym, ap, ◌∙◌, subst, arith}
+use Rattle.std.proofs.Common.{◌≡◌, ℕ, zero, suc, ◌+◌, ◌-◌, ◌*◌, ◌≤◌, inl, inr, List, [], ◌∷◌, ◌++◌, length, length-append, refl, sym, ap, ◌∙◌, subst, arith}
 use Rattle.ts_queue.specs.declared.ticket.Token.{Token}
 use Rattle.ts_queue.specs.declared.view.PassView.{PassView as Known}
 use Rattle.ts_queue.specs.Views.{kept_part, split_part, with_joined}
+use Rattle.ts_journal.specs.declared.slotted.Slotted.{Ghosts}
+use Rattle.ts_queue.specs.Passes.{pass_view}
+use Rattle.ts_slot.specs.Words.{view}
 use Rattle.ts_slot.specs.declared.view.SeatView.{SeatView}
 use Rattle.ts_slot.specs.Lists.{IsIn}
 use Rattle.ts_slot.specs.Views.{left_half, right_half, joined}
+use Rattle.ts_thread.specs.declared.desk.Desk.{Desk}
+use Rattle.ts_thread.specs.Desks.{KeepsDesk, SplitsDesk, JoinsDesk}
 use Rattle.ts_thread.specs.News.{HasTicket}
 use Rattle.ts_thread.specs.Seats.{More, KeepsSeat}
 
@@ -79,3 +84,20 @@ joined_share v w u x some right left is = let c : x.share ≡ u.share + w.share 
 
 pub le_of : (a b : ℕ) → a ≡ b → a ≤ b
 le_of a b e = omega arith
+
+module _ {X G T : Type 0} {d : Ghosts X G T} where
+  -- a desk was split, each half kept what it had, and they were joined
+  pub desks_joined : (old kept other kept' other' new : Desk X G T d) (l m : ℕ) → 1 ≤ (view old.seat).share
+      → 1 ≤ (pass_view old.pass).share → SplitsDesk old kept other → KeepsDesk kept kept' l
+      → KeepsDesk other other' m → JoinsDesk kept' other' new → KeepsDesk old new (m + l)
+  desks_joined old kept other kept' other' new l m some some_pass splits keeps keeps_other joins = record {
+    seat = joined_keeps (view old.seat) (view other'.seat) (view kept'.seat) (view new.seat) l m (m + l) some
+        (le_of (m + l) (m + l) refl)
+        (subst (λ (v : SeatView G T). KeepsSeat v (view other'.seat) m) splits.other_seat keeps_other.seat)
+        (subst (λ (v : SeatView G T). KeepsSeat v (view kept'.seat) l) splits.seat keeps.seat)
+        joins.seat;
+    share = joined_share (pass_view old.pass) (pass_view other'.pass) (pass_view kept'.pass)
+        (pass_view new.pass) some_pass
+        (keeps_other.share ∙ ap (λ (v : Known). v.share) splits.other_pass)
+        (keeps.share ∙ ap (λ (v : Known). v.share) splits.pass) joins.pass;
+  }

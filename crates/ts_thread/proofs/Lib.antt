@@ -3,11 +3,12 @@ pub mod Ended
 mod Ends
 mod Entries
 mod Groups
-mod Joins
+pub mod Joins
 pub mod Known
 mod Moves
-mod Rows
-mod Seats
+pub mod Rows
+pub mod Seats
+mod Standing
 mod Starts
 mod Telling
 mod Tokens

@@ -19,17 +19,40 @@ use Rattle.ts_queue.specs.declared.ticket.Token.{Token}
 use Rattle.ts_slot.specs.declared.seat.Turn.{Turn}
 use Rattle.ts_slot.specs.declared.view.SeatView.{SeatView}
 use Rattle.ts_slot.specs.Limits.{last_turn}
-use Rattle.ts_slot.specs.Lists.{Each, IsIn, same, entries}
+use Rattle.ts_slot.specs.Lists.{Each, IsIn, same, entries, rest}
 use Rattle.ts_slot.specs.Views.{Coherent, firsts, won, IsAfter}
+use Rattle.ts_slot.specs.Words.{IsTop}
 use Rattle.ts_wheel.specs.Due.{next_moment}
 use Rattle.ts_thread.specs.declared.desk.Desk.{Desk}
-use Rattle.ts_thread.specs.Entering.{IsEntered}
+use Rattle.ts_thread.specs.Entering.{IsEntered, IsWon}
 use Rattle.ts_thread.specs.Held.{HasTurn, BeginsSame, StartsInTurn, FitsHere, WillFit}
 use Rattle.ts_thread.specs.News.{HasPlaceAt}
 use Rattle.ts_thread.specs.Seats.{More, KeepsSeat, Leaves, KnowsTurn}
 use Rattle.ts_thread.specs.Started.{HasPut, IsFirst, Starts, WasStarted, Started, AllStarted}
 use Rattle.ts_thread.proofs.Groups.{keeps_same, turn_follows, has_gone}
 use Rattle.ts_thread.proofs.Seats.{keeps_trans, won_left}
+
+-- what a seat knows of a group that it won
+pub won_turn : {X G T : Type 0} {d : Ghosts X G T} (k : ℕ) (old new : SeatView G T) (turn : Turn X G T d)
+    → turn.group ≡ k → turn.found.value ≡ turn.boxed.value → d.stamp turn.boxed.value < turn.number
+    → new ≡ won k turn.number (d.trace turn.boxed.value) old → IsWon new turn
+won_turn {X} {G} {T} {d} k old new turn group found later wins =
+    let value : d.trace turn.boxed.value ≡ d.trace turn.found.value = ap d.trace (sym found) in
+    let held : new.held ≡ (k, turn.number, d.trace turn.boxed.value) ∷ old.held =
+    ap (λ (v : SeatView G T). v.held) wins in
+    let known : new.known ≡ (k, turn.number - 1, d.trace turn.boxed.value) ∷ old.known =
+    ap (λ (v : SeatView G T). v.known) wins in
+    let top : new.held ≡ (k, turn.number, d.trace turn.boxed.value) ∷ rest new.held =
+    held ∙ ap (λ es. (k, turn.number, d.trace turn.boxed.value) ∷ rest es) (sym held) in
+    record {
+      top = subst (λ j. IsTop new j turn.number (d.trace turn.found.value)) (sym group)
+          (subst (IsTop new k turn.number) value top);
+      found = found;
+      later = later;
+      knows = subst (λ j. IsIn (j, turn.number - 1, d.trace turn.found.value) new.known) (sym group)
+          (subst (λ c. IsIn (k, turn.number - 1, c) new.known) value
+          (subst (IsIn (k, turn.number - 1, d.trace turn.boxed.value)) (sym known) (inl refl)));
+    }
 
 -- a wheel in which no token waits is empty
 pub none_waits : (wheel : List (ℕ × Token)) → next_moment wheel ≡ None → wheel ≡ []
@@ -43,6 +66,12 @@ place_put moment desk none k p has = elim has [
   | inl waits ↦ absurd (subst (IsIn _) none waits.1)
   | inr put ↦ put.2
 ]
+
+-- the group that was entered is won, and the seat knows what it found
+pub entered_won : {X G T : Type 0} {d : Ghosts X G T} (tags : List G) (k : ℕ) (old new : SeatView G T)
+    (turn : Turn X G T d) → IsEntered tags k old new turn → IsWon new turn
+entered_won {X} {G} {T} {d} tags k old new turn entered = won_turn k entered.before new turn entered.group
+    entered.found entered.later entered.wins
 
 -- a group was entered, and left
 pub entered_left : {X G T : Type 0} {d : Ghosts X G T} (tags : List G) (k : ℕ) (old new u : SeatView G T)
@@ -92,12 +121,12 @@ module _ {W Q R T U : Type 0} (Fits : T → W → Type 0) (Sound : W → State �
         subst (λ (n : ℕ). OnTrue (is_first own) (n ≡ 0)) (sym made) fit.2.3,
       )
 
-  -- a group was entered, started and left
-  pub starts_one : (HasToken : ℕ → Pending → Type 0) (k turn seat : ℕ)
-      (found v g0 g1 g1' g2 left : Group W Q R T U) (old before entered new : SeatView T (Group W Q R T U))
+  -- a group that was won was started and left
+  pub starts_won : (HasToken : ℕ → Pending → Type 0) (k turn seat : ℕ)
+      (found v g0 g1 g1' g2 left : Group W Q R T U) (entered new : SeatView T (Group W Q R T U))
       → FitsHere Fits Sound only_asked is_first tags k v → found ≡ v → g0 ≡ v
       → HasTurn Fits g0 g1 turn seat → BeginsSame g0 g1 → g1' ≡ g1 → StartsInTurn Fits Sound Begun g1' g2
-      → v.cx.log.state.turns < turn → entered ≡ won k turn v before → Leaves entered new
+      → v.cx.log.state.turns < turn → IsIn (k, turn - 1, found) entered.known → Leaves entered new
       → left.world ≡ g2.world → left.cx.log.base.made ≡ g2.cx.log.base.made
       → IsLater g2.cx.log.state left.cx.log.state
       → NoNews left.cx.news_from left.cx.log.state
@@ -105,8 +134,8 @@ module _ {W Q R T U : Type 0} (Fits : T → W → Type 0) (Sound : W → State �
       HasToken k p)
       → KnowsTurn k turn left new.known
       → Starts Fits (IsFirst is_first tags) Begun Sound HasToken k turn found g2 left new.known
-  starts_one HasToken k turn seat found v g0 g1 g1' g2 left old before entered new fit is_found is has same
-      is1 starts young wins leaves stays made later told tokens knows =
+  starts_won HasToken k turn seat found v g0 g1 g1' g2 left entered new fit is_found is has same
+      is1 starts young there leaves stays made later told tokens knows =
       let world : g1'.world ≡ found.world = ap (λ (x : Group W Q R T U). x.world) is1 ∙ same.world ∙ ap
       (λ (x : Group W Q R T U). x.world) is ∙ ap (λ (x : Group W Q R T U). x.world) (sym is_found) in
       let made0 : g2.cx.log.base.made ≡ v.cx.log.base.made = starts.goes.made ∙ ap
@@ -116,8 +145,6 @@ module _ {W Q R T U : Type 0} (Fits : T → W → Type 0) (Sound : W → State �
       (λ (x : Group W Q R T U). HasTurn Fits x g1' turn seat) (is ∙ sym is_found)
       (subst (λ (x : Group W Q R T U). HasTurn Fits g0 x turn seat) (sym is1) has) in
       let gone : HasTurn Fits found g2 turn seat = has_gone Fits found g1' g2 turn seat taken starts.goes in
-      let there : IsIn (k, turn - 1, v) entered.known = subst (IsIn (k, turn - 1, v))
-      (sym (ap (λ (x : SeatView T (Group W Q R T U)). x.known) wins)) (inl refl) in
       record {
         first = (
           fit.0,
@@ -125,8 +152,7 @@ module _ {W Q R T U : Type 0} (Fits : T → W → Type 0) (Sound : W → State �
           subst (λ (n : ℕ). OnTrue (is_first fit.0) (n ≡ 0)) (sym made0)
               fit.2.3,
         );
-        stood = subst (λ (x : Group W Q R T U). IsIn (k, turn - 1, x) new.known) (sym is_found)
-            (leaves.known.stays (k, turn - 1, v) there);
+        stood = leaves.known.stays (k, turn - 1, found) there;
         turned = let number = gone.number in let was = ap (λ (x : Group W Q R T U). x.cx.log.state.turns)
             is_found in omega arith;
         goes = turn_follows Fits found g2 turn seat gone;

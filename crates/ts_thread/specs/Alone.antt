@@ -1,10 +1,11 @@
 -- The turns of groups that nobody else has: one thread takes them, one after the other.
-use Rattle.std.specs.Prelude.{◌≡◌, ◌⊎◌, ℕ, zero, suc, ◌+◌, ◌≤◌, List, [], ◌∷◌, ◌++◌}
+use Rattle.std.specs.Prelude.{◌≡◌, ◌≢◌, ◌⊎◌, ℕ, zero, suc, ◌+◌, ◌≤◌, List, [], ◌∷◌, ◌++◌, length}
 use Rattle.ts_journal.specs.declared.entry.Entry.{Entry}
 use Rattle.ts_journal.specs.declared.entry.Entry.TheVariants.{Took, Gave, Handled}
 use Rattle.ts_journal.specs.State.{State}
 use Rattle.ts_journal.specs.Machine.{replay}
 use Rattle.ts_journal.specs.Log.{Log, GoesOn}
+use Rattle.ts_group.specs.declared.group.Group.{Group}
 use Rattle.ts_group.specs.Due.{IsDueFirst}
 use Rattle.ts_group.specs.Entries.{asking_entries}
 use Rattle.ts_group.specs.declared.alone.TheConstants.{ONLY_SEAT}
@@ -43,3 +44,16 @@ pub record TakesTurns (Lack : Type 0) (old new : Log) (most : ℕ) : Type 0 wher
   pub added : List Entry
   pub by : GoesOn old new added
   pub are : AreOwnTurns Lack turns old.state added
+
+-- One group of a row had one turn more, if an event of it was pending.
+pub record HasStepped {W Q R T U : Type 0} (place : ℕ) (old new : List (Group W Q R T U)) : Type 0 where
+  pub before : List (Group W Q R T U)
+  pub before' : List (Group W Q R T U)
+  pub group : Group W Q R T U
+  pub group' : Group W Q R T U
+  pub after : List (Group W Q R T U)
+  pub after' : List (Group W Q R T U)
+  pub at_place : length before ≡ place
+  pub old_is : old ≡ before ++ group ∷ after
+  pub new_is : new ≡ before' ++ group' ∷ after'
+  pub turn : group.cx.log.state.pending ≢ [] → group'.cx.log.state.turns ≡ group.cx.log.state.turns + 1

@@ -1,10 +1,12 @@
 -- A thread's desk, and what calls leave of it.
-use Rattle.std.specs.Prelude.{◌≡◌, ℕ, ◌+◌, ◌≤◌, ◌⊎◌, length}
+use Rattle.std.specs.Prelude.{◌≡◌, ℕ, ◌+◌, ◌≤◌, ◌⊎◌, [], length}
 use Rattle.ts_journal.specs.declared.slotted.Slotted.{Ghosts}
 use Rattle.ts_queue.specs.declared.queue.EventQueue.{EventQueue}
 use Rattle.ts_journal.specs.declared.entry.TheConstants.{GREATEST}
 use Rattle.ts_queue.specs.Passes.{IsPassOf, pass_view, empties_of}
+use Rattle.ts_queue.specs.Views.{kept_part, split_part, with_joined}
 use Rattle.ts_slot.specs.declared.slots.Slots.{Slots}
+use Rattle.ts_slot.specs.Views.{left_half, right_half, joined}
 use Rattle.ts_slot.specs.Words.{tags_of, view, IsSeatOf}
 use Rattle.ts_thread.specs.declared.desk.Desk.{Desk}
 use Rattle.ts_thread.specs.News.{KeepsPlaces}
@@ -40,6 +42,21 @@ module _ {X G T : Type 0} {d : Ghosts X G T} where
     pub seat : Leaves (view old.seat) (view new.seat)
     pub share : (pass_view new.pass).share ≡ (pass_view old.pass).share
     pub places : KeepsPlaces old new
+
+  -- Another desk was split off: it has one part of the shares, a number that was free, and an empty wheel.
+  pub record SplitsDesk (old new other : Desk X G T d) : Type 0 where
+    pub seat : view new.seat ≡ left_half (view old.seat)
+    pub other_seat : view other.seat ≡ right_half (view old.seat)
+    pub pass : pass_view new.pass ≡ kept_part (pass_view old.pass)
+    pub other_pass : pass_view other.pass ≡ split_part (pass_view old.pass)
+    pub wheel : new.wheel ≡ old.wheel
+    pub other_wheel : other.wheel ≡ []
+
+  -- another desk was joined: its shares, its turns, what it put and took and what it knows went over
+  pub record JoinsDesk (old other new : Desk X G T d) : Type 0 where
+    pub seat : view new.seat ≡ joined (view old.seat) (view other.seat)
+    pub pass : pass_view new.pass ≡ with_joined (pass_view old.pass) (pass_view other.pass)
+    pub wheel : new.wheel ≡ old.wheel
 
   -- the pass has the share that it had
   abbrev pub SharesSame : Desk X G T d → Desk X G T d → Type 0

@@ -17,10 +17,13 @@ use Rattle.ts_slot.specs.Lists.{IsIn}
 use Rattle.ts_thread.specs.News.{HasTicket}
 use Rattle.ts_thread.specs.Seats.{KnowsTurn}
 
--- each of the first so many groups has a tag whose worlds are not only asked
+-- the group k has a tag whose worlds are not only asked
+abbrev pub MayStart : {T : Type 0} → (T → Bool) → List T → ℕ → Type 0
+MayStart {T} only_asked tags k = (t : T) × (get_elem? tags k ≡ some t) × (only_asked t ≡ false)
+
+-- each of the first so many groups has such a tag
 abbrev pub CanStart : {T : Type 0} → (T → Bool) → List T → ℕ → Type 0
-CanStart {T} only_asked tags starts =
-    (k : ℕ) → k < starts → (t : T) × (get_elem? tags k ≡ some t) × (only_asked t ≡ false)
+CanStart only_asked tags starts = (k : ℕ) → k < starts → MayStart only_asked tags k
 
 -- the group k was made with so many turns, which its tag allows
 abbrev pub IsFirst : {T : Type 0} → (T → Bool) → List T → ℕ → ℕ → Type 0

@@ -1,22 +1,91 @@
 //! What a thread has of its own: its seat at the slots, its pass of the queue, and its wheel.
 
-ghost use Rattle.std.specs.Prelude.{◌≡◌, length, IfSome, IfNone, OnOk, OnErr};
+ghost use Rattle.std.specs.Prelude.{◌≡◌, length, [], IfSome, IfNone, IfOk, IfErr, OnOk, OnErr};
 ghost use Rattle.ts_queue.specs.Passes.{IsPassOf, pass_view, empties_of};
 ghost use Rattle.ts_wheel.specs.Due.{after_due};
 ghost use Rattle.ts_thread.specs.Tokens.{AllName, TakesNext, FindsNone, Gets, FindsNothing, Places, SamePlaces, is_shared};
 
+use std::alloc::Global;
 use std::sync::Wait;
 use ts_link::NoMemory;
 use ts_queue::{EventQueue, QueuePass, Token};
-use ts_slot::{Seat, Slotted};
+use ts_slot::{Seat, Slots, Slotted};
 use ts_wheel::Wheel;
 
 /// What a thread has of its own: its seat at the slots, its pass of the queue, and its wheel.
 #[derive(Drop)]
 pub struct Desk<V: Slotted> {
-    pub(crate) seat: Seat<V>,
+    /// With it groups are entered, between the turns of tokens too.
+    pub seat: Seat<V>,
     pub(crate) pass: QueuePass,
     pub(crate) wheel: Wheel<Token>,
+}
+
+impl<V: Slotted> Desk<V> {
+    ghost use Rattle.ts_slot.specs.Words.{view};
+    ghost use Rattle.ts_thread.specs.Desks.{IsDeskOf, KeepsDesk, SplitsDesk, JoinsDesk};
+    ghost use Rattle.ts_thread.specs.Threads.{CanSplit};
+
+    /// A desk with an empty wheel. At want of memory the seat and the pass come back.
+    pub fn make(
+        alloc: Global,
+        seat: Seat<V>,
+        pass: QueuePass,
+    ) -> Result<Desk<V>, (NoMemory, Seat<V>, QueuePass)>
+        ensures desk { IfOk result (λ d. (d.seat ≡ seat) × (d.pass ≡ pass) × (d.wheel ≡ [])) }
+        ensures err { IfErr result (λ e. (e.1 ≡ seat) × (e.2 ≡ pass)) }
+    {
+        match Wheel::new(alloc) {
+            Ok(wheel) => Ok(Desk { seat, pass, wheel }),
+            Err(NoMemory) => Err((NoMemory, seat, pass)),
+        }
+    }
+
+    /// The seat and the pass. Tokens that wait in the wheel are dropped.
+    pub fn into_parts(self) -> (Seat<V>, QueuePass)
+        ensures { (result.0 ≡ self.seat) × (result.1 ≡ self.pass) }
+    {
+        let Desk {
+            seat,
+            pass,
+            wheel: _,
+        } = self;
+        (seat, pass)
+    }
+
+    /// Splits a desk off, which gets one part of the shares, knows what this one knows, and has an empty
+    /// wheel.
+    pub fn split(
+        &mut self,
+        alloc: Global,
+        slots: &Slots<V>,
+        queue: &EventQueue,
+    ) -> Result<Desk<V>, NoMemory>
+        requires desk { IsDeskOf slots.now queue.now self.old }
+        requires splits { CanSplit 2 self.old.seat self.old.pass }
+        ensures desk { IsDeskOf slots.now queue.now self.new }
+        ensures other { IfOk result (λ other. IsDeskOf slots.now queue.now other) }
+        ensures ok { IfOk result (λ other. SplitsDesk self.old self.new other) }
+        ensures err { OnErr result (KeepsDesk self.old self.new 0) }
+    {
+        let wheel = Wheel::new(alloc)?;
+        let pass = queue.split(&mut self.pass)?;
+        let seat = slots.split(&mut self.seat);
+        Ok(Desk { seat, pass, wheel })
+    }
+
+    /// Joins a desk to this one, which gets its shares and its turns, and knows what it knows. Tokens that
+    /// wait in its wheel are dropped.
+    pub fn join(&mut self, slots: &Slots<V>, queue: &EventQueue, other: Desk<V>)
+        requires desks { IsDeskOf slots.now queue.now self.old × IsDeskOf slots.now queue.now other }
+        requires idle { (view other.seat).held ≡ [] }
+        ensures desk { IsDeskOf slots.now queue.now self.new }
+        ensures joins { JoinsDesk self.old other self.new }
+    {
+        let (seat, pass) = other.into_parts();
+        slots.join(&mut self.seat, seat);
+        queue.join(&mut self.pass, pass);
+    }
 }
 
 // Takes the next token of the queue that names one of so many groups.

@@ -188,8 +188,8 @@ fn handle_and_ask<W: World + Drop>(
     }
 }
 
-// Handles an event of a group in a turn of its own.
-fn turn_alone<W: World + Drop>(
+/// Handles an event of a group in a turn of its own.
+pub fn turn_alone<W: World + Drop>(
     before: &mut [Group<W>],
     group: &mut Group<W>,
     after: &mut [Group<W>],
@@ -199,8 +199,8 @@ fn turn_alone<W: World + Drop>(
 ) -> Result<(), Unfinished>
     requires fits { (tags : List W.Tag) × CanAsk W.fits W.only_asked W.may_ask W.right W.answers tags
         × GroupsFit W.fits W.sound W.only_asked W.is_first tags (row before.old group.old after.old) }
-    requires due { ComesNext group.old number moment }
-    requires limit { limit ≤ MOST_TURNS }
+    requires due { ComesNext group.old number moment × (limit ≤ MOST_TURNS) }
+    ensures took { OnOk result (group.new.cx.log.state.turns ≡ group.old.cx.log.state.turns + 1) }
     ensures own { HasTakenTurns W.fits W.sound W.only_asked W.is_first W.left limit result
         group.old group.new 1 }
     ensures before { AllGoOn W.fits W.sound W.only_asked W.is_first W.left limit result

@@ -1,12 +1,13 @@
 //! The first turn of each group, in which its world sets its first events.
 
-ghost use Rattle.std.specs.Prelude.{◌<◌, ◌+◌, length, OnOk};
+ghost use Rattle.std.specs.Prelude.{◌≡◌, ℕ, ◌<◌, ◌+◌, true, false, length, IfOk, OnOk};
 ghost use Rattle.ts_journal.specs.declared.entry.TheConstants.{GREATEST};
-ghost use Rattle.ts_slot.specs.Words.{tags_of, view, IsSeatOf};
-ghost use Rattle.ts_thread.specs.Desks.{IsDeskOf, KeepsTokens};
-ghost use Rattle.ts_thread.specs.Entering.{IsEntered};
+ghost use Rattle.ts_slot.specs.Words.{tags_of, view, IsSeatOf, Misses};
+ghost use Rattle.ts_thread.specs.Desks.{IsDeskOf, KeepsTokens, LeavesDesk};
+ghost use Rattle.ts_thread.specs.Entering.{IsEntered, IsWon};
+ghost use Rattle.ts_thread.specs.Held.{FitsHere};
 ghost use Rattle.ts_thread.specs.News.{HasPlaceAt};
-ghost use Rattle.ts_thread.specs.Started.{CanStart, IsFirst, Started, AllStarted};
+ghost use Rattle.ts_thread.specs.Started.{CanStart, MayStart, IsFirst, Started, AllStarted};
 
 use crate::desk::Desk;
 use crate::held::{begin, start};
@@ -33,8 +34,38 @@ fn enter_at<V: Slotted, R: Wait>(rt: &R, slots: &Slots<V>, seat: &mut Seat<V>, k
     unreachable!()
 }
 
-// Starts the group k in a turn of its own. The tokens of all its first events go into the queue, unless the
-// pass has no serial left.
+// Starts the group that the seat won last, in this turn of it, at a moment. The tokens of all its first
+// events go into the queue, unless the pass has no serial left.
+fn start_won<W: World + Drop, R: Wait>(
+    rt: &R,
+    slots: &Slots<Group<W>>,
+    queue: &EventQueue,
+    desk: &mut Desk<Group<W>>,
+    mut turn: Turn<Group<W>>,
+    moment: u64,
+) -> Result<(), NoMemory>
+    requires desk { IsDeskOf slots.now queue.now desk.old }
+    requires won { IsWon (view desk.old.seat) turn }
+    requires fits { FitsHere W.fits W.sound W.only_asked W.is_first
+        (tags_of slots.now) turn.group turn.boxed.value }
+    requires tag { MayStart W.only_asked (tags_of slots.now) turn.group }
+    ensures desk { IsDeskOf slots.now queue.now desk.new }
+    ensures leaves { LeavesDesk desk.old desk.new }
+    ensures started { OnOk result (Started W.Question W.Reply W.Trace W.fits
+        (IsFirst W.is_first (tags_of slots.now)) W.begun W.sound (HasPlaceAt GREATEST desk.new)
+        (view desk.new.seat).known turn.group) }
+{
+    let owner = desk.seat.number();
+    let number = turn.number();
+    if let Err(_) = begin(turn.value(), number, owner, moment) {
+        leave(slots, &mut desk.seat, turn);
+        return Err(NoMemory);
+    }
+    start(turn.value());
+    end_turn(rt, slots, queue, desk, true, turn, u64::MAX)
+}
+
+// Starts the group k in a turn of its own, at the moment 0, however often it is missed.
 fn start_one<W: World + Drop, R: Wait>(
     rt: &R,
     slots: &Slots<Group<W>>,
@@ -50,15 +81,35 @@ fn start_one<W: World + Drop, R: Wait>(
         (IsFirst W.is_first (tags_of slots.now)) W.begun W.sound (HasPlaceAt GREATEST desk.new)
         (view desk.new.seat).known k) }
 {
-    let mut turn = enter_at(rt, slots, &mut desk.seat, k);
-    let owner = desk.seat.number();
-    let number = turn.number();
-    if let Err(_) = begin(turn.value(), number, owner, 0) {
-        leave(slots, &mut desk.seat, turn);
-        return Err(NoMemory);
-    }
-    start(turn.value());
-    end_turn(rt, slots, queue, desk, true, turn, u64::MAX)
+    let turn = enter_at(rt, slots, &mut desk.seat, k);
+    start_won(rt, slots, queue, desk, turn, 0)
+}
+
+/// Starts the group k in a turn of its own, at a moment, if no other seat holds it, and answers whether it
+/// did. The tokens of its first events go into the queue, unless the pass has no serial left.
+pub fn try_start<W: World + Drop, R: Wait>(
+    rt: &R,
+    slots: &Slots<Group<W>>,
+    queue: &EventQueue,
+    desk: &mut Desk<Group<W>>,
+    k: u32,
+    moment: u64,
+) -> Result<bool, NoMemory>
+    requires desk { IsDeskOf slots.now queue.now desk.old }
+    requires tag { MayStart W.only_asked (tags_of slots.now) k }
+    ensures desk { IsDeskOf slots.now queue.now desk.new }
+    ensures keeps { KeepsTokens desk.old desk.new 1 }
+    ensures started { IfOk result (λ done. done ≡ true → Started W.Question W.Reply W.Trace W.fits
+        (IsFirst W.is_first (tags_of slots.now)) W.begun W.sound (HasPlaceAt GREATEST desk.new)
+        (view desk.new.seat).known k) }
+    ensures missed { IfOk result (λ done. done ≡ false →
+        (seen : ℕ) × Misses k seen (view desk.old.seat) (view desk.new.seat)) }
+{
+    let Ok(turn) = slots.try_enter(&mut desk.seat, k) else {
+        return Ok(false);
+    };
+    start_won(rt, slots, queue, desk, turn, moment)?;
+    Ok(true)
 }
 
 /// Starts the first so many groups, each in a turn of its own.

@@ -14,7 +14,6 @@ use ts_group::{Group, World};
 use ts_link::{Gate, NoMemory};
 use ts_queue::{EventQueue, QueuePass};
 use ts_slot::{Seat, Slots, Slotted};
-use ts_wheel::Wheel;
 
 /// A thread that takes turns on the groups of some slots. It holds none of them between its calls.
 #[derive(Drop)]
@@ -57,15 +56,15 @@ impl<'a, W: World + Drop, G: Gate> EventThread<'a, W, G> {
         ensures desk { IfOk result (λ t. (t.desk.seat ≡ seat) × (t.desk.pass ≡ pass) × (t.desk.wheel ≡ [])) }
         ensures err { IfErr result (λ e. (e.1 ≡ seat) × (e.2 ≡ pass)) }
     {
-        match Wheel::new(alloc) {
-            Ok(wheel) => Ok(EventThread {
+        match Desk::make(alloc, seat, pass) {
+            Ok(desk) => Ok(EventThread {
                 number,
                 slots,
                 queue,
                 gate,
-                desk: Desk { seat, pass, wheel },
+                desk,
             }),
-            Err(NoMemory) => Err((NoMemory, seat, pass)),
+            Err(lack) => Err(lack),
         }
     }
 
@@ -127,11 +126,6 @@ impl<'a, W: World + Drop, G: Gate> EventThread<'a, W, G> {
             gate: _,
             desk,
         } = self;
-        let Desk {
-            seat,
-            pass,
-            wheel: _,
-        } = desk;
-        (seat, pass)
+        desk.into_parts()
     }
 }

@@ -33,7 +33,7 @@ returns-in-Err-Worn-clause-worn g c = λ is.
     c.args.before.now c.begin_alone.new.self c.args.after.now (
       subst (λ (s : State). c.args.limit ≤ s.turns) stays within.0,
       inl (subst (λ (s : State). s.pending ≢ []) stays
-          (next_pending c.args.group.now.cx.log.state c.args.moment c.args.number c.requires.due)),
+          (next_pending c.args.group.now.cx.log.state c.args.moment c.args.number c.requires.due.0)),
     )
 
 pub returns-in-Err-Worn-clause-before : goal.returns-in-Err-Worn-clause-before
@@ -52,7 +52,7 @@ handle_and_ask-answer-requires-clause-turn g c =
     let begun = c.in-Ok.ensures in (
       ap (λ (s : State). s.held) begun.begins.state,
       begun.sound fit.1.1,
-      subst (λ (s : State). IsDueFirst s c.args.moment c.args.number) (sym begun.begins.state) c.requires.due,
+      subst (λ (s : State). IsDueFirst s c.args.moment c.args.number) (sym begun.begins.state) c.requires.due.0,
     )
 
 pub handle_and_ask-answer-requires-clause-fits : goal.handle_and_ask-answer-requires-clause-fits
@@ -73,7 +73,7 @@ returns-clause-own g c =
     stepped g.W.Slotted.fits g.W.World.sound g.W.World.only_asked g.W.World.is_first g.W.World.left
     c.args.limit c.args.group.now c.begin_alone.new.self c.handle_and_ask-answer.new.group
     c.give_turn.new.self (c.args.group.now.cx.log.state.turns + 1) c.args.moment c.args.number
-    c.requires.due begun.within
+    c.requires.due.0 begun.within
     refl begun.begins begun.world begun.left works given.gives given.world given.left
     (given.sound works.sound)
 
