@@ -1,21 +1,16 @@
--- How the request of a transaction without hook plugins ends, and that only a whole answer of it has a body.
-use Rattle.std.proofs.Common.{◌≡◌, ◌≢◌, ◌⊎◌, ℕ, List, [], Bool, true, false, Result, Ok, Err, inl, inr, refl}
-use Rattle.std.proofs.Common.{sym, ap, subst}
-use Rattle.ts_config.specs.declared.fields.Side.TheVariants as S
+-- How the request of a transaction ends, header rules included, and that only a whole answer has a body.
+use Rattle.std.proofs.Common.{◌≡◌, ◌≢◌, ◌⊎◌, ℕ, List, [], Bool, true, false, Result, Ok, Err, inl, inr}
+use Rattle.std.proofs.Common.{refl, sym, subst}
 use Rattle.ts_config.specs.declared.setup.Setup.{Setup}
 use Rattle.ts_hooks.specs.declared.txn_end.TxnEnd.TheVariants as E
 use Rattle.ts_block.specs.Block.{AnswerSays, DenySays, DialSays, IsBlock, VerdictSays, asked, bad, cut, ended}
 use Rattle.ts_block.specs.Block.{lacking, no_head, passed_on, request_text, silent}
-use Rattle.ts_block.specs.Heads.{HasRequest}
-use Rattle.ts_block.specs.Rules.{ruled}
+use Rattle.ts_block.specs.Sent.{HasPlainRules}
 use Rattle.ts_block.specs.declared.block.Block.{Block}
-use Rattle.ts_wire.specs.Check.{check, is_absolute}
-use Rattle.ts_wire.specs.Forward.{forwarded}
+use Rattle.ts_wire.specs.Check.{check}
 use Rattle.ts_wire.specs.OneHead.{IsReadRequest}
-use Rattle.ts_wire.specs.Printed.{origin_text}
 use Rattle.ts_wire.specs.declared.heads.RequestHead.{RequestHead}
-use Rattle.ts_wire.proofs.PlainForward.{forwards_unchanged}
-use Rattle.ts_wire.proofs.SentRequest.{sends_one_request}
+use Rattle.ts_block.proofs.SentOnce.{asks_once, was_read}
 use Rattle.ts_replay.specs.Exchanged.{EndsBlank}
 use Rattle.ts_replay.proofs.Blank.{sent_ends}
 
@@ -37,20 +32,13 @@ whole_shaped b made is ends whole = subst IsShaped (sym is)
 short_shaped : (b made : Block) → b ≡ made → EndsBlankIf made.request → made.body ≡ [] → IsShaped b
 short_shaped b made is ends none = subst IsShaped (sym is) (record { request = ends; short = λ other. none })
 
--- every head that a transaction finds is kept of a head of the grammar
-was_read : (c : List ℕ) (q : RequestHead) (rest : List ℕ) → HasRequest c q rest → IsReadRequest q
-was_read c q rest has = record { parsed = has.parsed; good = has.begins.reads.0; keeps = has.keeps }
-
-module _ (setup : Setup) (plain : setup.plugins.items ≡ []) where
+module _ (setup : Setup) (plain : HasPlainRules setup) where
   -- the request that an origin is sent ends with its only empty line
   request_ends : (q : RequestHead) (target host : List ℕ) → IsReadRequest q → check q ≡ Ok (target, host)
       → EndsBlank (request_text setup q target host)
   request_ends q target host read passes =
       sent_ends q.method target host (request_text setup q target host)
-      (sends_one_request q target host (forwarded q.fields) (request_text setup q target host)
-      (ap (λ lines. origin_text q.method (is_absolute q.target) q.minor target host
-      (ruled S.Request lines (forwarded q.fields))) plain)
-      read passes (forwards_unchanged q read))
+      (asks_once setup plain q target host read passes)
 
   -- ---- case by case
 

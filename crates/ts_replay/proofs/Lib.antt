@@ -1,9 +1,9 @@
+pub mod Askers
 pub mod Blank
 pub mod Blocks
 pub mod Coming
 pub mod Ended
 pub mod HexLengths
-pub mod Numbered
 pub mod OneReport
 pub mod Plans
 pub mod Rows

@@ -1,6 +1,7 @@
 -- Transactions under lines have at most one list of blocks, and so a recording has at most one report.
 use Rattle.std.proofs.Common.{◌≡◌, List, [], ◌∷◌, true, false, sym, ap, subst, refl, ◌∙◌}
 use Rattle.std.specs.List.{concat}
+use Rattle.ts_config.specs.Setup.{ConfigLines}
 use Rattle.ts_config.specs.declared.setup.Setup.{Setup}
 use Rattle.ts_record.specs.Grammar.{TxnPieces}
 use Rattle.ts_record.specs.Report.{report_text}
@@ -34,14 +35,15 @@ module _ (s t : Setup) (lines : s.transforms.items ≡ t.transforms.items)
 
 pub one_list : HaveOneList
 one_list lines txns a b h k =
-    list_one h.setup k.setup (h.lines_are.transforms ∙ sym k.lines_are.transforms)
-    (h.lines_are.no_plugins ∙ sym k.lines_are.no_plugins) txns a b h.each k.each
+    let same = h.lines_are ∙ sym k.lines_are in
+    list_one h.setup k.setup (ap (λ (l : ConfigLines). l.transforms) same)
+    (ap (λ (l : ConfigLines). l.plugins) same) txns a b h.each k.each
 
 -- so their report is one
 pub one_report : HasOneReport
 one_report lines bytes a b h k =
     h.text_is
     ∙ ap report_text (one_list lines k.txns h.blocks k.blocks
-    (subst (λ txns. AreBlocksOn lines txns h.blocks) (one_recording bytes k.txns h.txns k.recording h.recording)
-    h.are) k.are)
+    (subst (λ txns. AreBlocksOn lines txns h.blocks)
+    (one_recording bytes k.txns h.txns k.recording h.recording) h.are) k.are)
     ∙ sym k.text_is

@@ -1,6 +1,8 @@
 -- The numbers of a replay's plan: its turns are few.
-use Rattle.std.proofs.Common.{◌≡◌, ℕ, zero, suc, ◌+◌, ◌*◌, ◌<◌, ◌≤◌, Bool, false, subst, arith}
+use Rattle.std.proofs.Common.{◌≡◌, ℕ, zero, suc, ◌+◌, ◌*◌, ◌<◌, ◌≤◌, Bool, true, false, sym, subst}
+use Rattle.std.proofs.Common.{◌∙◌, arith}
 use Rattle.std.specs.Prelude.{◌==◌, max}
+use Rattle.std.proofs.lemmas.Bool.{eqb-true}
 use Rattle.std.proofs.lemmas.Nat.{mul-le}
 use Rattle.ts_group.specs.declared.slot.TheConstants.{MOST_IN_TURN}
 use Rattle.ts_journal.specs.declared.entry.TheConstants.{GREATEST}
@@ -13,6 +15,10 @@ use Rattle.ts_thread.specs.Threads.{turns_of}
 pub some_of : (b : Bool) (len count : ℕ) → b ≡ (len == 0) → b ≡ false → len ≡ count → 0 < count
 some_of b len zero is empty same = let none : b ≡ (0 == 0) = subst (λ k. b ≡ (k == 0)) same is in absurd (cc)
 some_of b len (suc count) is empty same = omega arith
+
+-- and what is empty has none
+pub none_of : (b : Bool) (len count : ℕ) → b ≡ (len == 0) → b ≡ true → len ≡ count → count ≡ 0
+none_of b len count is empty same = sym same ∙ eqb-true len 0 (sym is ∙ empty)
 
 -- threads within their limit give no more turns than one thread alone does
 pub turns_few : (starts threads : ℕ) → starts ≤ MOST_TXNS → threads ≤ MOST_THREADS

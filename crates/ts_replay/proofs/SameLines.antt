@@ -11,8 +11,8 @@ use Rattle.ts_hooks.specs.declared.txn_end.TxnEnd.{TxnEnd}
 use Rattle.ts_hooks.specs.declared.txn_end.TxnEnd.TheVariants as E
 use Rattle.ts_block.specs.Acting.{acting, acts_on}
 use Rattle.ts_block.specs.Block.{AnswerSays, BodySays, DenySays, DialSays, IsBlock, VerdictSays, asked, bad}
-use Rattle.ts_block.specs.Block.{body_lines, cut, ended, lacking, no_head, own_block, passed_on, relayed_block}
-use Rattle.ts_block.specs.Block.{request_text, silent}
+use Rattle.ts_block.specs.Block.{body_lines, cut, ended, lacking, no_head, own_block, passed_on}
+use Rattle.ts_block.specs.Block.{relayed_block, request_text, silent}
 use Rattle.ts_block.specs.Own.{own_field, own_head, own_sent}
 use Rattle.ts_block.specs.Relayed.{client_framing, framing_of, if_body, length_told, mode_of, reads_chunks}
 use Rattle.ts_block.specs.Rules.{is_denied, ruled}

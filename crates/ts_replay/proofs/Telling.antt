@@ -3,6 +3,7 @@ use Rattle.std.proofs.Common.{◌≡◌, ◌≢◌, Result, Ok, Err, IfOk, take,
 use Rattle.std.proofs.Common.{false, Option, Some, None, length, refl, sym, ap, subst, ◌∙◌, arith}
 use Rattle.std.specs.Prelude.{unwrap_or}
 use Rattle.std.proofs.lemmas.List.{append-nil, take_at, drop_at}
+use Rattle.ts_block.specs.Sent.{HasPlainRules}
 use Rattle.ts_config.specs.declared.setup.Setup.{Setup}
 use Rattle.ts_hooks.specs.declared.txn_end.TxnEnd.{TxnEnd}
 use Rattle.ts_hooks.specs.declared.txn_end.TxnEnd.TheVariants as E
@@ -74,9 +75,9 @@ got_short E.Whole parts b sent other none got = absurd (other refl)
 got_short _ parts b sent other none got = (none, (sent, got))
 
 -- an ended transaction between a client and the origin of this link sent its block
-module _ (setup : Setup) (plain : setup.plugins.items ≡ []) (p : Peer LinkState) (client : LinkSide)
-    (sent : Sent) (cs c o : List ℕ) (parts : TxnParts LinkState LinkState) (link : LinkState)
-    (is : p.link ≡ link) (left : AreLeftOf client sent c o parts link) where
+module _ (setup : Setup) (plain : HasPlainRules setup) (p : Peer LinkState)
+    (client : LinkSide) (sent : Sent) (cs c o : List ℕ) (parts : TxnParts LinkState LinkState)
+    (link : LinkState) (is : p.link ≡ link) (left : AreLeftOf client sent c o parts link) where
   -- the block of what its links gave or may still give is that of these bytes
   same_block : (b : Block) → IsBlockOf setup (all_of client.look) (all_of (look_of p.link)) b
       → IsBlockOf setup c o b
@@ -149,7 +150,7 @@ module _ (setup : Setup) (plain : setup.plugins.items ≡ []) (p : Peer LinkStat
 
 -- the same, where the origin's side may lack
 sent_if : (setup : Setup) (x : Option (Peer LinkState)) (client : LinkSide) (sent : Sent) (cs c o : List ℕ)
-    (parts : TxnParts LinkState LinkState) (link : LinkState) → setup.plugins.items ≡ []
+    (parts : TxnParts LinkState LinkState) (link : LinkState) → HasPlainRules setup
     → link_if x ≡ Some link → AreLeftOf client sent c o parts link → (end : TxnEnd)
     → SendsBlock setup (refuses_if refuses_none x cs) (viewed client x sent) end
     → HasBlockAt setup c o parts link end
@@ -208,7 +209,7 @@ module _ (setup : Setup) (c o : List ℕ) (parts : TxnParts LinkState LinkState)
         rested.0,
         h.end_is ∙ rested.1,
         sent_if setup t.core.origin (side look_of t.core.client) t.core.sent
-            (look_of t.core.client.link).source c o parts link run.no_plugins is
+            (look_of t.core.client.link).source c o parts link run.plain is
             left rested.0
             (subst (λ s. SendsBlock s (refuses_if refuses_none t.core.origin
             (look_of t.core.client.link).source) (viewed (side look_of t.core.client) t.core.origin

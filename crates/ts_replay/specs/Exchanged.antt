@@ -1,14 +1,20 @@
 -- A recorded transaction that has ended, and what it left.
-use Rattle.std.specs.Prelude.{◌≡◌, ◌⊎◌, ℕ, ◌<◌, List, [], ◌++◌, length, map, All, Bool, true, false, codes}
+use Rattle.std.specs.Prelude.{◌≡◌, ◌⊎◌, ℕ, ◌<◌, List, [], ◌∷◌, ◌++◌, length, map, All, Bool, true, false}
+use Rattle.std.specs.Prelude.{Some, codes, ⊤}
 use Rattle.std.specs.Arc.{arc_value}
 use Rattle.memchr.specs.Find.{OccursAt}
+use Rattle.ts_block.specs.Sent.{HasPlainRules}
 use Rattle.ts_config.specs.declared.setup.Setup.{Setup}
 use Rattle.ts_group.specs.declared.action.Named.{Named}
+use Rattle.ts_group.specs.declared.either.Either.TheVariants.{One, Other}
 use Rattle.ts_hooks.specs.declared.txn_end.TxnEnd.{TxnEnd}
 use Rattle.ts_hooks.specs.declared.txn_end.TxnEnd.TheVariants as E
 use Rattle.ts_journal.specs.declared.entry.TheConstants.{GREATEST}
 use Rattle.ts_link.specs.MemLink.{LinkState, look_of}
-use Rattle.ts_replay.specs.Recorded.{IsSoundWith, Recorded}
+use Rattle.ts_record.specs.Report.{IsReported}
+use Rattle.ts_record.specs.declared.report.ReportBlock.{ReportBlock}
+use Rattle.ts_replay.specs.Recorded.{IsSoundWith, Recorded, RowWorld}
+use Rattle.ts_replay.specs.Reports.{IsShownOf}
 use Rattle.ts_txn.specs.CourseCover.{is_fresh_on}
 use Rattle.ts_txn.specs.Making.{end_of_course, link_if}
 use Rattle.ts_phases.specs.View.{is_dialed, side_if}
@@ -16,12 +22,12 @@ use Rattle.ts_block.specs.declared.block.Block.{Block}
 use Rattle.ts_txn.specs.declared.making.TxnParts.{TxnParts}
 use Rattle.ts_wire.specs.Frames.{IsPiece, cut_body, frames}
 
--- The transaction is one of this setup, which has no hook plugin, between two sides that give these bytes. It
--- was started, nothing of its group is pending, the group has an event number left, and what is to hold of it
--- holds.
+-- The transaction is one of this setup, whose header rules leave alone what the proxy sees to itself, between
+-- two sides that give these bytes. It was started, nothing of its group is pending, the group has an event
+-- number left, and what is to hold of it holds.
 pub record IsRunBetween (setup : Setup) (c o : List ℕ) (t : Recorded) : Type 0 where
   pub setup_is : arc_value t.core.setup ≡ setup
-  pub no_plugins : setup.plugins.items ≡ []
+  pub plain : HasPlainRules setup
   pub gives : (look_of t.core.client.link).source ≡ c
   pub dialed : is_dialed t.core.origin ≡ true
   pub answers : (side_if look_of t.core.origin).look.source ≡ o
@@ -79,3 +85,21 @@ pub record LeavesBlock (parts : TxnParts LinkState LinkState) (origin : LinkStat
   pub end_is : b.end ≡ end
   pub taken : HasTaken origin b
   pub got : GotBy end parts b
+
+-- ---- what is shown of it
+
+-- the block tells how a transaction ended, and is the one of whatever setup and two sides it ran between
+pub record TellsOf (t : Recorded) (b : ReportBlock) : Type 0 where
+  pub shown : (setup : Setup) (c o : List ℕ) → IsRunBetween setup c o t → IsShownOf setup c o b
+  pub ended : end_of_course t.course ≡ Some b.end
+  pub reported : IsReported b.end
+
+-- where the world of a group is a transaction, it has run
+abbrev pub HasRun : RowWorld → Type 0
+HasRun (One t) = (setup : Setup) × (c : List ℕ) × (o : List ℕ) × IsRunBetween setup c o t
+HasRun (Other p) = ⊤
+
+-- the block of a transaction stands behind others, and a plugin has none
+abbrev pub AddsBlock : RowWorld → List ReportBlock → List ReportBlock → Type 0
+AddsBlock (One t) old new = (b : ReportBlock) × (new ≡ old ++ b ∷ []) × TellsOf t b
+AddsBlock (Other p) old new = new ≡ old

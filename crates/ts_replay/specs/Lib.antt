@@ -1,5 +1,5 @@
 pub mod Exchanged
-pub mod Numbered
+pub mod Members
 pub mod Recorded
 pub mod Replayed
 pub mod Reports

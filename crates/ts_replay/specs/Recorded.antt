@@ -1,54 +1,81 @@
--- A transaction between two recorded sides: its group, the tag of its slot, and what is to hold of it.
-use Rattle.std.specs.Prelude.{◌≡◌, ℕ, ◌≤◌, List, [], length, Bool, true, false, Some, ⊤}
-use Rattle.ts_config.specs.Bytes.{most_transforms}
+-- The row of a replay: its groups with the tags of their slots, and what is to hold of each.
+use Rattle.std.specs.Prelude.{◌≡◌, ℕ, List, Bool, true, false, Some, ⊤}
+use Rattle.ts_block.specs.Sent.{HasPlainRules}
+use Rattle.ts_config.specs.Reading.{AreFew}
+use Rattle.ts_config.specs.Setup.{lines_of}
 use Rattle.ts_config.specs.declared.setup.Setup.{Setup}
+use Rattle.ts_group.specs.Either.{EitherFits, EitherSound, OfBoth, tag_of}
 use Rattle.ts_group.specs.declared.action.Named.{Named}
+use Rattle.ts_group.specs.declared.either.Either.{Either}
+use Rattle.ts_group.specs.declared.either.EitherTag.{EitherTag}
+use Rattle.ts_group.specs.declared.either.EitherTag.TheVariants as kind
 use Rattle.ts_group.specs.declared.group.Group.{Group}
 use Rattle.ts_journal.specs.State.{State}
 use Rattle.ts_journal.specs.declared.entry.Pending.{Pending}
 use Rattle.ts_link.specs.MemLink.{LinkState, look_of}
+use Rattle.ts_plugin.specs.World.{IsPluginOf, OnlyAnswers}
+use Rattle.ts_plugin.specs.declared.plugin.Plugin.{Plugin}
+use Rattle.ts_plugin.specs.declared.plugin.PluginTag.{PluginTag}
+use Rattle.ts_plugin.specs.declared.question.HookQuestion.{HookQuestion}
+use Rattle.ts_plugin.specs.declared.question.HookReply.{HookReply}
 use Rattle.ts_record.specs.Grammar.{TxnPieces}
 use Rattle.ts_record.specs.Links.{recorded_side}
+use Rattle.ts_replay.specs.Members.{HookPlugin, Member, Transaction}
 use Rattle.ts_stock.specs.StockTransform.{stock_transform}
 use Rattle.ts_stock.specs.declared.stock.State.{State as StockState}
 use Rattle.ts_thread.specs.Tags.{GroupFits, GroupsFit}
-use Rattle.ts_txn.specs.World.{IsSoundTxn, IsTxnOf}
+use Rattle.ts_txn.specs.World.{HasTxnBegun, IsSoundTxn, IsTxnOf}
 use Rattle.ts_txn.specs.declared.txn.Txn.{Txn}
 use Rattle.ts_txn.specs.declared.txn.TxnTag.{TxnTag}
 use Rattle.ts_upstream.specs.InMemory.{memory_link}
 use Rattle.ts_upstream.specs.declared.upstream.Upstream as upstream
 
--- its body goes through stock transforms
+-- a transaction between two recorded sides, whose body goes through stock transforms, and the tag of its slot
 abbrev pub Recorded : Type 0
 Recorded = Txn LinkState LinkState StockState
 
 abbrev pub RecordedTag : Type 0
 RecordedTag = TxnTag LinkState LinkState
 
-abbrev pub RecordedGroup : Type 0
-RecordedGroup = Group Recorded (Unit {0}) (Unit {0}) RecordedTag (Unit {0})
+-- the world of a group in the row: a transaction or a hook plugin
+abbrev pub RowWorld : Type 0
+RowWorld = Either Recorded Plugin
 
--- a setup has no hook plugin, and no more lines than a transaction takes
-pub record HasLinesOnly (setup : Setup) : Type 0 where
-  pub few : length setup.transforms.items ≤ most_transforms
-  pub no_plugins : setup.plugins.items ≡ []
+abbrev pub RowTag : Type 0
+RowTag = EitherTag RecordedTag PluginTag
+
+abbrev pub RowGroup : Type 0
+RowGroup = Group RowWorld HookQuestion HookReply RowTag (Unit {0})
+
+-- a setup has no more lines than a configuration, and its header rules leave alone what the proxy sees to
+-- itself
+pub record HasPlainLines (setup : Setup) : Type 0 where
+  pub few : AreFew (lines_of setup)
+  pub plain : HasPlainRules setup
+
+-- ---- the tags
 
 -- The tag is that of the transaction of this number between sides that give these pieces: its links are sure,
--- its slot had no other tenant, and it was started or not.
-pub record IsTagOf (setup : Setup) (number : ℕ) (txn : TxnPieces) (started : Bool)
+-- its slot had no other tenant, and it was started or not. It asks plugins in the groups from `at` on.
+pub record IsTagOf (setup : Setup) (at number : ℕ) (txn : TxnPieces) (started : Bool)
     (tag : RecordedTag) : Type 0 where
   pub number_is : tag.number ≡ number
   pub setup_is : tag.setup.value ≡ setup
-  pub plugins_at : tag.plugins_at ≡ 0
+  pub plugins_at : tag.plugins_at ≡ at
   pub client : tag.client.value ≡ recorded_side txn.0
   pub origin : tag.origin.value ≡ Some (recorded_side txn.1)
   pub sure : tag.sure ≡ true
   pub first : tag.first ≡ true
   pub started_is : tag.started ≡ started
 
--- and it was not started
-abbrev pub IsNewTagOf : Setup → ℕ → TxnPieces → RecordedTag → Type 0
-IsNewTagOf setup number txn tag = IsTagOf setup number txn false tag
+-- the tag is that of a member of the row, of a transaction that was not started
+abbrev pub IsNewTagOf : Setup → ℕ → Member → RowTag → Type 0
+IsNewTagOf setup at (Transaction number txn) (kind.One t) = IsTagOf setup at number txn false t
+IsNewTagOf setup at (Transaction number txn) (kind.Other p) = ⊥
+IsNewTagOf setup at (HookPlugin line) (kind.One t) = ⊥
+IsNewTagOf setup at (HookPlugin line) (kind.Other p) = p.line.value ≡ line
+
+-- ---- what is to hold
 
 -- a recorded side as the link to an origin, which refuses no upload and has none left
 abbrev pub recorded_origin : upstream.Ghosts LinkState LinkState
@@ -71,17 +98,29 @@ IsSoundWith t pending next roles =
 abbrev pub IsSoundRecorded : Recorded → State → List Named → Type 0
 IsSoundRecorded t s roles = IsSoundWith t s.pending s.next roles
 
--- it is never only asked
-abbrev pub is_asked_only : RecordedTag → Bool
-is_asked_only tag = false
+-- the world is the one that the tag names: that transaction, or the plugin of that line
+abbrev pub IsOfRowTag : RowTag → RowWorld → Type 0
+IsOfRowTag = EitherFits IsOfTag IsPluginOf
 
-abbrev pub is_first : RecordedTag → Bool
-is_first tag = tag.first
+-- what is to hold of it holds in a journal's state
+abbrev pub IsSoundRow : RowWorld → State → List Named → Type 0
+IsSoundRow = EitherSound IsSoundRecorded (λ p s roles. OnlyAnswers s)
+
+-- a transaction was started, and a plugin stays as it is
+abbrev pub HasRowBegun : RowWorld → RowWorld → Type 0
+HasRowBegun = OfBoth HasTxnBegun (λ old new. new ≡ old)
+
+-- only plugins are only asked
+abbrev pub is_asked_only : RowTag → Bool
+is_asked_only = tag_of (λ t. false) (λ p. true)
+
+abbrev pub is_first : RowTag → Bool
+is_first = tag_of (λ t. t.first) (λ p. false)
 
 -- its group fits the tag
-abbrev pub FitsIn : RecordedTag → RecordedGroup → Type 0
-FitsIn = GroupFits IsOfTag IsSoundRecorded is_asked_only is_first
+abbrev pub FitsIn : RowTag → RowGroup → Type 0
+FitsIn = GroupFits IsOfRowTag IsSoundRow is_asked_only is_first
 
 -- groups fit tags, each the tag at its place
-abbrev pub FitInRow : List RecordedTag → List RecordedGroup → Type 0
-FitInRow = GroupsFit IsOfTag IsSoundRecorded is_asked_only is_first
+abbrev pub FitInRow : List RowTag → List RowGroup → Type 0
+FitInRow = GroupsFit IsOfRowTag IsSoundRow is_asked_only is_first

@@ -1,8 +1,8 @@
 -- The blocks that the transactions of a recording come to, and the report that is made of them.
-use Rattle.std.specs.Prelude.{◌≡◌, ℕ, List, [], true, false}
+use Rattle.std.specs.Prelude.{◌≡◌, ℕ, List, true, false}
 use Rattle.std.specs.List.{AllZip, concat}
+use Rattle.ts_config.specs.Setup.{ConfigLines, lines_of}
 use Rattle.ts_config.specs.declared.setup.Setup.{Setup}
-use Rattle.ts_config.specs.declared.setup.TransformLine.{TransformLine}
 use Rattle.ts_record.specs.Grammar.{TxnPieces, IsRecording}
 use Rattle.ts_record.specs.Report.{report_text}
 use Rattle.ts_record.specs.declared.report.ReportBlock.{ReportBlock}
@@ -28,20 +28,15 @@ IsTxnShown setup txn b = IsShownOf setup (concat txn.0) (concat txn.1) b
 abbrev pub AreShown : Setup → List TxnPieces → List ReportBlock → Type 0
 AreShown setup txns blocks = AllZip (IsTxnShown setup) txns blocks
 
--- a setup of these lines, with no hook plugin
-pub record IsSetupOf (lines : List TransformLine) (setup : Setup) : Type 0 where
-  pub transforms : setup.transforms.items ≡ lines
-  pub no_plugins : setup.plugins.items ≡ []
-
 -- THE BLOCKS of transactions under these lines
-pub record AreBlocksOn (lines : List TransformLine) (txns : List TxnPieces) (blocks : List ReportBlock)
+pub record AreBlocksOn (lines : ConfigLines) (txns : List TxnPieces) (blocks : List ReportBlock)
     : Type 0 where
   pub setup : Setup
-  pub lines_are : IsSetupOf lines setup
+  pub lines_are : lines_of setup ≡ lines
   pub each : AreShown setup txns blocks
 
 -- the text is the report on the recording in these bytes under these lines
-pub record IsReportOn (lines : List TransformLine) (bytes text : List ℕ) : Type 0 where
+pub record IsReportOn (lines : ConfigLines) (bytes text : List ℕ) : Type 0 where
   pub txns : List TxnPieces
   pub recording : IsRecording bytes txns
   pub blocks : List ReportBlock
@@ -51,13 +46,13 @@ pub record IsReportOn (lines : List TransformLine) (bytes text : List ℕ) : Typ
 -- transactions under lines have at most one list of blocks
 abbrev pub HaveOneList : Type 0
 HaveOneList =
-    (lines : List TransformLine) (txns : List TxnPieces) (a b : List ReportBlock) → AreBlocksOn lines txns a
+    (lines : ConfigLines) (txns : List TxnPieces) (a b : List ReportBlock) → AreBlocksOn lines txns a
     → AreBlocksOn lines txns b → a ≡ b
 
 -- lines and the bytes of a recording have at most one report
 abbrev pub HasOneReport : Type 0
 HasOneReport =
-    (lines : List TransformLine) (bytes a b : List ℕ) → IsReportOn lines bytes a → IsReportOn lines bytes b
+    (lines : ConfigLines) (bytes a b : List ℕ) → IsReportOn lines bytes a → IsReportOn lines bytes b
     → a ≡ b
 
 -- the bytes are a recording

@@ -3,6 +3,7 @@
 ghost use Rattle.std.specs.Prelude.{◌≡◌};
 ghost use Rattle.ts_replay.specs.declared.fault.ReplayFault.TheVariants as f;
 
+use std::alloc::AllocFailed;
 use thiserror::Error;
 use ts_link::NoMemory;
 
@@ -20,6 +21,14 @@ impl From<NoMemory> for ReplayFault {
     ghost from_gives = { λ _ e. e ≡ f.NoMemory };
 
     fn from(_refusal: NoMemory) -> ReplayFault {
+        ReplayFault::NoMemory
+    }
+}
+
+impl<T: Drop> From<AllocFailed<T>> for ReplayFault {
+    ghost from_gives = { λ _ e. e ≡ f.NoMemory };
+
+    fn from(_refusal: AllocFailed<T>) -> ReplayFault {
         ReplayFault::NoMemory
     }
 }

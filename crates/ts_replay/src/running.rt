@@ -3,13 +3,11 @@
 ghost use Rattle.std.specs.Prelude.{◌<◌, ◌≤◌, IfOk, List, length};
 ghost use Rattle.ts_config.specs.declared.setup.Setup.{Setup};
 ghost use Rattle.ts_record.specs.Grammar.{TxnPieces};
-ghost use Rattle.ts_replay.specs.Numbered.{EachOf};
-ghost use Rattle.ts_replay.specs.Replayed.{HasRunAs};
+ghost use Rattle.ts_replay.specs.Replayed.{AreDone};
 ghost use Rattle.ts_replay.specs.Rows.{IsRowOf};
 
-use crate::block::Recorded;
 use crate::fault::ReplayFault;
-use crate::groups::GroupRow;
+use crate::groups::{GroupRow, RowWorld};
 use std::alloc::Global;
 use std::sync::Wait;
 use std::thread::Threads;
@@ -28,18 +26,21 @@ pub fn run_row<G: Gate + Sync, R: Threads + Wait + Sync>(
     row: GroupRow,
     threads: u32,
     gate: &G,
-) -> Result<Vec<Group<Recorded>>, ReplayFault>
+) -> Result<Vec<Group<RowWorld>>, ReplayFault>
     requires row { (setup : Setup) × (txns : List TxnPieces) × (length txns ≤ MOST_TXNS)
-        × IsRowOf setup txns row.tags.items row.groups.items }
+        × IsRowOf setup txns row }
     requires threads { (0 < threads) × (threads ≤ MOST_THREADS) }
-    ensures { (setup : Setup) (txns : List TxnPieces) → IsRowOf setup txns row.tags.items row.groups.items →
-        IfOk result (λ gs. EachOf (HasRunAs setup) 1 txns gs.items) }
+    ensures { (setup : Setup) (txns : List TxnPieces) → IsRowOf setup txns row →
+        IfOk result (λ gs. AreDone setup txns gs.items) }
 {
-    let GroupRow { groups, tags } = row;
+    let GroupRow {
+        groups,
+        tags,
+        starts,
+    } = row;
     if groups.is_empty() {
         return Ok(groups);
     }
-    let starts = groups.len() as u32;
     match run_whole(rt, alloc, groups, tags, starts, threads, BUDGET, gate) {
         Ok(groups) => Ok(groups),
         Err(Unfinished::NoMemory) => Err(ReplayFault::NoMemory),

@@ -6,8 +6,12 @@ use Rattle.ts_record.specs.Grammar.{TxnPieces}
 use Rattle.ts_record.specs.Links.{recorded_side}
 use Rattle.ts_txn.specs.Making.{IsMadeOf, IsMadeOfIf}
 use Rattle.ts_replay.specs.Recorded.{IsTagOf, RecordedTag}
-use Rattle.ts_replay.proofs.Rows.{fits_group}
-use Rattle.ts_replay.proofs.groups.make_group.Goals as goal
+use Rattle.ts_replay.proofs.Rows.{fits_group, taken_setup}
+use Rattle.ts_replay.proofs.groups.make_txn.Goals as goal
+
+pub make-requires-3-clause-setup : goal.make-requires-3-clause-setup
+make-requires-3-clause-setup c =
+    taken_setup (arc_value c.args.setup) c.args.plugins_at c.requires.lines c.requires.at
 
 pub returns-clause-fits : goal.returns-clause-fits
 returns-clause-fits c =
@@ -16,7 +20,7 @@ returns-clause-fits c =
     let tag : RecordedTag = record {
       number = c.args.number;
       setup = c.of.result;
-      plugins_at = 0;
+      plugins_at = c.args.plugins_at;
       client =
           c.of-2.result;
       origin = c.of-3.result;
@@ -24,12 +28,13 @@ returns-clause-fits c =
       first = true;
       started = false;
     } in
-    let is : IsTagOf (arc_value c.args.setup) c.args.number c.args.txn false tag = search rules in
+    let is : IsTagOf (arc_value c.args.setup) c.args.plugins_at c.args.number c.args.txn false tag =
+    search rules in
     let of_client = ap (λ (s : TxnPieces). s.0) c.txn.view_is in
     let of_origin = ap (λ (s : TxnPieces). s.1) c.txn.view_is in
     let client : c.txn.inside.client.items ≡ c.args.txn.0 = cc in
     let origin : c.txn.inside.origin.items ≡ c.args.txn.1 = cc in
-    fits_group (arc_value c.args.setup) c.args.number c.args.txn tag t is made.named.0
+    fits_group (arc_value c.args.setup) c.args.plugins_at c.args.number c.args.txn tag t is made.named.0
     (ap arc_value made.named.1) made.named.2
     (subst (λ l. IsMadeOf look_of l t.core.client) (c.in_ok-client.ensures.made ∙ ap recorded_side client)
     made.links.0)
