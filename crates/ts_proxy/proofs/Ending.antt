@@ -3,7 +3,8 @@ use Rattle.std.specs.Prelude.{◌≢◌, ⊤, nat_le, length}
 use Rattle.std.proofs.Common.{◌≡◌, ◌⊎◌, ℕ, Bool, true, false, List, [], ◌∷◌, Option, Some, None, inl, inr}
 use Rattle.std.proofs.Common.{refl, subst, sym, arith, if◌then◌else◌}
 use Rattle.std.proofs.lemmas.List.{append-nil}
-use Rattle.ts_config.specs.Value.{Reading, Good, Bad, config_of}
+use Rattle.ts_config.specs.Setup.{ConfigLines}
+use Rattle.ts_config.specs.Value.{Reading, Good, Bad, setup_of}
 use Rattle.ts_config.specs.declared.setup.TransformLine.{TransformLine}
 use Rattle.ts_config.specs.declared.setup.TransformLine.TheVariants as t
 use Rattle.ts_journal.specs.Log.{Log}
@@ -14,8 +15,8 @@ use Rattle.ts_proxy.specs.declared.command.GenerateTask.{GenerateTask}
 use Rattle.ts_proxy.specs.Answers.{ComesAt, IsCausedBy, IsTextOf, OnCannotRead, TookAt, file_name}
 use Rattle.ts_proxy.specs.Ends.{EndsAt, IsStatus, IsStatusOf, TakesAt, bad_line, status_of, too_long, usage}
 use Rattle.ts_proxy.specs.Outcome.{Outcome, Usage, BadLine, Missing, Long, Text, Report, Summary, filled}
-use Rattle.ts_proxy.specs.Outcome.{line_filled, most_append, most_config, most_input, opened, outcome_of}
-use Rattle.ts_proxy.specs.Outcome.{performed, understood, worked}
+use Rattle.ts_proxy.specs.Outcome.{line_filled, lines_filled, most_append, most_config, most_input, opened}
+use Rattle.ts_proxy.specs.Outcome.{outcome_of, performed, understood, with_transforms, worked}
 use Rattle.ts_proxy.specs.Performed.{IsPerformed, NamesFiles}
 use Rattle.ts_proxy.specs.Took.{TookSome, TookWhole}
 use Rattle.ts_proxy.specs.Words.{Command, Transform, Replay, Task, Over, Make, config_in, input_in}
@@ -55,12 +56,14 @@ filled-of files (l ∷ ls) next h =
     line-of files l (λ first. filled files ls (λ rest. next (first ∷ rest)))
     (λ first. filled-of files ls (λ rest. next (first ∷ rest)) (λ rest. h (first ∷ rest)))
 
-understood-of : (files : List ℕ → Option (List ℕ)) (r : Reading) (next : List TransformLine → Outcome)
-    → ((xs : List TransformLine) → IsOfFiles (next xs)) → IsOfFiles (understood r (λ ls. filled files ls next))
-understood-of files (Good lines) next h = filled-of files lines.transforms next h
+understood-of : (files : List ℕ → Option (List ℕ)) (r : Reading) (next : ConfigLines → Outcome)
+    → ((xs : ConfigLines) → IsOfFiles (next xs)) → IsOfFiles (understood r (λ ls. lines_filled files ls next))
+understood-of files (Good lines) next h =
+    filled-of files lines.transforms (λ ts. next (with_transforms ts lines))
+    (λ ts. h (with_transforms ts lines))
 understood-of files (Bad n k) next h = tt
 
-worked-of : (command : Command) (lines : List TransformLine) (bytes : List ℕ)
+worked-of : (command : Command) (lines : ConfigLines) (bytes : List ℕ)
     → IsOfFiles (worked command lines bytes)
 worked-of Transform lines bytes = tt
 worked-of Replay lines bytes = tt
@@ -68,11 +71,11 @@ worked-of Replay lines bytes = tt
 performed-of : (command : Command) (files : List ℕ → Option (List ℕ)) (config input : List ℕ)
     → IsOfFiles (performed command files config input)
 performed-of command files config input =
-    let next : List TransformLine → Outcome =
+    let next : ConfigLines → Outcome =
     λ lines. opened (files input) most_input input (worked command lines) in
     opened-of (files config) most_config config
-    (λ bytes. understood (config_of bytes) (λ ls. filled files ls next))
-    (λ bytes. understood-of files (config_of bytes) next
+    (λ bytes. understood (setup_of bytes) (λ ls. lines_filled files ls next))
+    (λ bytes. understood-of files (setup_of bytes) next
     (λ lines. opened-of (files input) most_input input (worked command lines) (worked-of command lines)))
 
 not-usage-of : (o : Outcome) → IsOfFiles o → o ≢ Usage

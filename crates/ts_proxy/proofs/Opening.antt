@@ -13,7 +13,7 @@ use Rattle.ts_proxy.specs.Answers.{HasOutput}
 use Rattle.ts_link.specs.Seen.{ShelfSeen, SinkSeen}
 use Rattle.ts_proxy.specs.Outcome.{Outcome, most_input, opened, set_up, performed, worked, Long, Text}
 use Rattle.ts_proxy.specs.declared.answer.NamedFile.TheVariants as file
-use Rattle.ts_config.specs.declared.setup.TransformLine.{TransformLine}
+use Rattle.ts_config.specs.Setup.{ConfigLines}
 use Rattle.ts_proxy.specs.Words.{Command}
 
 -- a file that was read
@@ -56,8 +56,8 @@ writing-comes config input text (a.TooLong n) old new h = absurd h
 
 -- a command whose files were read does its part
 pub performed-read : (command : Command) (files files' : List ℕ → Option (List ℕ))
-    (config input bytes : List ℕ) (lines : List TransformLine)
-    → ((next : List TransformLine → Outcome) → set_up files config next ≡ next lines) → files' ≡ files
+    (config input bytes : List ℕ) (lines : ConfigLines)
+    → ((next : ConfigLines → Outcome) → set_up files config next ≡ next lines) → files' ≡ files
     → files' input ≡ Some bytes → length bytes ≤ most_input
     → performed command files config input ≡ worked command lines bytes
 performed-read command files files' config input bytes lines read same is within =
@@ -67,21 +67,21 @@ performed-read command files files' config input bytes lines read same is within
 
 -- a command whose input could not be read
 pub performed-refused : (command : Command) (files files' : List ℕ → Option (List ℕ)) (config input : List ℕ)
-    (lines : List TransformLine) (f : ShelfFault)
-    → ((next : List TransformLine → Outcome) → set_up files config next ≡ next lines) → files' ≡ files
+    (lines : ConfigLines) (f : ShelfFault)
+    → ((next : ConfigLines → Outcome) → set_up files config next ≡ next lines) → files' ≡ files
     → KeepsLimit most_input (Err f)
     → ReadsFile (files' input) most_input (Err f)
     → ComesAt config input (answer_of f file.Input) (performed command files config input)
 performed-refused command files files' config input lines f read same limit told =
-    let next : List TransformLine → Outcome = λ ls. opened (files input) most_input input (worked command ls)
+    let next : ConfigLines → Outcome = λ ls. opened (files input) most_input input (worked command ls)
     in
     subst (λ o. ComesAt config input (answer_of f file.Input) o) (sym (read next))
     (refused-comes config input input most_input (files input) f file.Input (worked command lines) refl limit
     (subst (λ g. ReadsFile (g input) most_input (Err f)) same told))
 
 -- a command whose input could not be read had come to it
-pub input-refused : (shelf : ShelfSeen) (config : List ℕ) (lines : List TransformLine) (f : ShelfFault)
-    → ((next : List TransformLine → Outcome) → set_up shelf.file config next ≡ next lines)
+pub input-refused : (shelf : ShelfSeen) (config : List ℕ) (lines : ConfigLines) (f : ShelfFault)
+    → ((next : ConfigLines → Outcome) → set_up shelf.file config next ≡ next lines)
     → OnCannotRead (answer_of f file.Input) (IsReadBy shelf config)
 input-refused shelf config lines fault.Failed read = subst HasOutput (sym (read (λ ls. Text []))) tt
 input-refused shelf config lines (fault.TooLong seen) read = tt

@@ -1,10 +1,8 @@
 -- From the parts of a task's work to what the task came to.
-use Rattle.std.proofs.Common.{◌≡◌, ℕ, ◌+◌, Bool, true, List, [], ◌∷◌, All, map, inl, inr, refl, sym}
+use Rattle.std.proofs.Common.{◌≡◌, ℕ, Bool, true, List, [], inl, inr, refl, sym}
 use Rattle.std.proofs.Common.{subst}
 use Rattle.std.specs.Prelude.{⊤}
-use Rattle.std.proofs.lemmas.List.Elements.{All-nil, All-cons}
-use Rattle.ts_config.specs.declared.setup.Setup.{Setup}
-use Rattle.ts_config.specs.declared.setup.TransformLine.{TransformLine}
+use Rattle.ts_config.specs.Setup.{ConfigLines}
 use Rattle.ts_journal.specs.Log.{Log}
 use Rattle.ts_link.specs.Counts.{Rose}
 use Rattle.ts_link.specs.Seen.{ShelfSeen, SinkSeen}
@@ -22,9 +20,7 @@ use Rattle.ts_proxy.specs.Took.{TookAll, TookFront, TookNothing}
 use Rattle.ts_proxy.specs.Words.{Command, Over, Make}
 use Rattle.ts_record.specs.Grammar.{TxnPieces}
 use Rattle.ts_record.specs.Report.{report_text}
-use Rattle.ts_replay.specs.Numbered.{EachOf}
-use Rattle.ts_replay.specs.Replayed.{IsFinal, IsReplayOf, IsReplayed, journal_of}
-use Rattle.ts_replay.specs.Recorded.{RecordedGroup}
+use Rattle.ts_replay.specs.Replayed.{IsReplayed}
 use Rattle.ts_replay.specs.Reports.{AreBlocksOn}
 use Rattle.ts_replay.specs.declared.outcomes.Replayed.{Replayed}
 
@@ -57,7 +53,7 @@ work-caused (a.TooLong f) shelf shelf' out out' h = absurd h
 -- the files of a command were read, and the part that comes after reading was done
 pub performed-worked : (command : Command) (config input : List ℕ) (tells out_tells : Bool)
     (shelf shelf' : ShelfSeen) (out out' : SinkSeen) (answer : Answer) (js : List Log)
-    (lines : List TransformLine) (bytes : List ℕ)
+    (lines : ConfigLines) (bytes : List ℕ)
     → (tells ≡ true → (any : Command) → performed any shelf.file config input ≡ worked any lines bytes)
     → IsCarriedOut (AreJournalsOf (Over command config input)) (worked command lines bytes) out_tells out out'
     answer js
@@ -238,7 +234,7 @@ work-lacking AreOurs o out_tells out js none = record {
 }
 
 -- the transactions of a recording were not run
-pub work-unrun : (lines : List TransformLine) (bytes : List ℕ) (out_tells : Bool) (out : SinkSeen)
+pub work-unrun : (lines : ConfigLines) (bytes : List ℕ) (out_tells : Bool) (out : SinkSeen)
     (answer : Answer) (js : List Log)
     → IsOfRunning bytes answer → js ≡ []
     → IsCarriedOut AreOfThreads (Report lines bytes) out_tells out out answer js
@@ -263,28 +259,12 @@ work-unrun lines bytes out_tells out (a.TooLong f) js h none = absurd h
 -- ---- what transactions were run to
 
 -- the blocks of those that were run
-blocks-on : (lines : List TransformLine) (txns : List TxnPieces) (r : Replayed) → IsReplayed lines txns r
+blocks-on : (lines : ConfigLines) (txns : List TxnPieces) (r : Replayed) → IsReplayed lines txns r
     → AreBlocksOn lines txns r.blocks.items
 blocks-on lines txns r on = record { setup = on.setup; lines_are = on.lines_are; each = on.comes.blocks }
 
--- each journal of a replay is final
-finals : (setup : Setup) (number : ℕ) (txns : List TxnPieces) (groups : List RecordedGroup)
-    → EachOf (IsReplayOf setup) number txns groups
-    → All IsFinal (map journal_of groups)
-finals setup number [] [] each = All-nil IsFinal
-finals setup number [] (g ∷ gs) each = absurd each
-finals setup number (t ∷ ts) [] each = absurd each
-finals setup number (t ∷ ts) (g ∷ gs) each = All-cons IsFinal (journal_of g) (map journal_of gs) each.0.final
-    (finals setup (number + 1) ts gs each.1)
-
--- so the journals are those of event threads
-of-threads : (lines : List TransformLine) (txns : List TxnPieces) (r : Replayed) → IsReplayed lines txns r
-    → AreOfThreads r.journals.items
-of-threads lines txns r on = subst (All IsFinal) (sym on.comes.journals)
-    (finals on.setup 1 txns on.groups on.comes.each)
-
 -- those of a recording were run to the report on it
-pub run-to-report : (lines : List TransformLine) (bytes : List ℕ) (r : Replayed) (text : List ℕ)
+pub run-to-report : (lines : ConfigLines) (bytes : List ℕ) (r : Replayed) (text : List ℕ)
     → IsReplayOn lines bytes r → text ≡ report_text r.blocks.items
     → IsRunTo (Report lines bytes) text r.journals.items
 run-to-report lines bytes r text on is = record {
@@ -296,7 +276,7 @@ run-to-report lines bytes r text on is = record {
     are = blocks-on lines on.txns r on.replayed;
     text_is = is;
   };
-  ours = of-threads lines on.txns r on.replayed;
+  ours = on.replayed.comes.final;
   each = (r, on, refl);
 }
 
@@ -311,6 +291,6 @@ run-to-summary numbers r text on is = record {
     are = blocks-on fixed_lines (txns_of numbers) r on;
     text_is = is;
   };
-  ours = of-threads fixed_lines (txns_of numbers) r on;
+  ours = on.comes.final;
   each = (r, on, refl);
 }

@@ -11,8 +11,8 @@ use Rattle.ts_proxy.specs.declared.answer.NamedFile.{NamedFile}
 use Rattle.ts_proxy.specs.declared.answer.NamedFile.TheVariants as file
 use Rattle.ts_config.specs.declared.setup.TransformLine.{TransformLine}
 use Rattle.ts_config.specs.declared.setup.TransformLine.TheVariants as t
-use Rattle.ts_config.specs.Setup.{transforms_alone}
-use Rattle.ts_config.specs.Value.{Good, config_of}
+use Rattle.ts_config.specs.Setup.{ConfigLines}
+use Rattle.ts_config.specs.Value.{Good, setup_of}
 use Rattle.ts_proxy.specs.Outcome.{Outcome, Usage, BadLine, Long, Text, Report, Summary}
 use Rattle.ts_proxy.specs.Outcome.{most_config, filled, set_up}
 use Rattle.ts_proxy.specs.Summary.{IsSummaryOf}
@@ -85,8 +85,7 @@ pub record ReachesFile (files : List ℕ → Option (List ℕ)) (lines : List Tr
 -- file
 abbrev pub IsReadFor : (List ℕ → Option (List ℕ)) → List ℕ → NamedFile → Type 0
 IsReadFor files config f = IsSomeAnd (files config) (λ bytes. (length bytes ≤ most_config)
-    × (lines : List TransformLine) × (config_of bytes ≡ Good (transforms_alone lines))
-    × ReachesFile files lines f)
+    × (lines : ConfigLines) × (setup_of bytes ≡ Good lines) × ReachesFile files lines.transforms f)
 
 -- the file whose read failed is one that the work comes to: the configuration; a file that one of its lines
 -- names; and the input, once all the others were read

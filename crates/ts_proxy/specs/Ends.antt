@@ -31,7 +31,7 @@ cannot_read = 5
 abbrev pub cannot_write : ℕ
 cannot_write = 6
 
--- also where the group of a transaction had all the turns that it gets, which takes years
+-- also where a group had all the turns that it gets, which takes years
 abbrev pub out_of_memory : ℕ
 out_of_memory = 7
 

@@ -5,7 +5,8 @@ use Rattle.ts_link.specs.Seen.{ShelfSeen}
 use Rattle.ts_config.specs.declared.setup.TransformLine.{TransformLine}
 use Rattle.ts_config.specs.declared.setup.TransformLine.TheVariants as t
 use Rattle.ts_config.specs.declared.setup.ConfigKind.{ConfigKind}
-use Rattle.ts_config.specs.Value.{Reading, Good, Bad, config_of}
+use Rattle.ts_config.specs.Setup.{ConfigLines}
+use Rattle.ts_config.specs.Value.{Reading, Good, Bad, setup_of}
 use Rattle.ts_config.specs.Bodies.{compose_lines}
 use Rattle.ts_proxy.specs.Words.{Command, Transform, Replay, Task, Over, Make}
 use Rattle.ts_proxy.specs.declared.command.GenerateTask.{GenerateTask}
@@ -31,7 +32,7 @@ pub data Outcome : Type 0 where
   Missing : List ℕ → Outcome
   Long : List ℕ → Outcome
   Text : List ℕ → Outcome
-  Report : List TransformLine → List ℕ → Outcome
+  Report : ConfigLines → List ℕ → Outcome
   Summary : GenerateTask → Outcome
 
 -- goes on with the bytes of a file, if it is there and has at most `most` of them
@@ -39,9 +40,9 @@ abbrev pub opened : Option (List ℕ) → ℕ → List ℕ → (List ℕ → Out
 opened None most name next = Missing name
 opened (Some bytes) most name next = if nat_le (length bytes) most then next bytes else Long name
 
--- goes on with the transform lines of a configuration, if all lines are in the grammar
-abbrev pub understood : Reading → (List TransformLine → Outcome) → Outcome
-understood (Good lines) next = next lines.transforms
+-- goes on with the lines of a configuration, if all are in the grammar
+abbrev pub understood : Reading → (ConfigLines → Outcome) → Outcome
+understood (Good lines) next = next lines
 understood (Bad n k) next = BadLine n k
 
 -- goes on with a line, which if it is an append has the text of its file
@@ -50,21 +51,29 @@ line_filled files (t.Append name text) next =
     opened (files name) most_append name (λ bytes. next (t.Append name bytes))
 line_filled files line next = next line
 
--- goes on with lines in their order, each append with the text of its file
+-- goes on with transform lines in their order, each append with the text of its file
 abbrev pub filled : (List ℕ → Option (List ℕ)) → List TransformLine → (List TransformLine → Outcome) → Outcome
 filled files [] next = next []
 filled files (l ∷ ls) next = line_filled files l (λ first. filled files ls (λ rest. next (first ∷ rest)))
 
+-- the lines of a configuration, with these transform lines in the place of theirs
+abbrev pub with_transforms : List TransformLine → ConfigLines → ConfigLines
+with_transforms ts lines = record { transforms = ts; plugins = lines.plugins }
+
+-- goes on with the lines of a configuration, whose transform lines are filled
+abbrev pub lines_filled : (List ℕ → Option (List ℕ)) → ConfigLines → (ConfigLines → Outcome) → Outcome
+lines_filled files lines next = filled files lines.transforms (λ ts. next (with_transforms ts lines))
+
 -- a configuration is read and understood, and the files of its lines are read
-abbrev pub set_up : (List ℕ → Option (List ℕ)) → List ℕ → (List TransformLine → Outcome) → Outcome
+abbrev pub set_up : (List ℕ → Option (List ℕ)) → List ℕ → (ConfigLines → Outcome) → Outcome
 set_up files config next =
     opened (files config) most_config config
-    (λ bytes. understood (config_of bytes) (λ ls. filled files ls next))
+    (λ bytes. understood (setup_of bytes) (λ lines. lines_filled files lines next))
 
--- what a command makes of the lines and its input: `transform` passes a body through the lines, and `replay`
--- runs a recording under them
-abbrev pub worked : Command → List TransformLine → List ℕ → Outcome
-worked Transform lines input = Text (compose_lines lines input)
+-- what a command makes of the lines and its input: `transform` passes a body through the transform lines, and
+-- those of hook plugins have no effect on it; `replay` runs a recording under all of them
+abbrev pub worked : Command → ConfigLines → List ℕ → Outcome
+worked Transform lines input = Text (compose_lines lines.transforms input)
 worked Replay lines input = Report lines input
 
 -- the outcome of a command over files: the configuration is set up, then the input is read

@@ -1,6 +1,6 @@
 -- What a task answers and what it leaves: its journals, and what out took.
 use Rattle.std.specs.Prelude.{◌≡◌, ℕ, List, [], ◌∷◌, ⊤, All, Bool, true, Option, Some}
-use Rattle.ts_config.specs.declared.setup.TransformLine.{TransformLine}
+use Rattle.ts_config.specs.Setup.{ConfigLines}
 use Rattle.ts_journal.specs.Log.{Log}
 use Rattle.ts_link.specs.Seen.{ShelfSeen, SinkSeen}
 use Rattle.ts_proxy.specs.Answers.{ComesAt, HasOutput, IsCausedBy, IsOfWork, IsReadBy, IsTextOf, OnCannotRead}
@@ -31,13 +31,13 @@ AreJournalsOf (Over Replay config input) js = AreOfThreads js
 AreJournalsOf (Make numbers) js = AreOfThreads js
 
 -- the transactions of the recording in these bytes were replayed under these lines
-pub record IsReplayOn (lines : List TransformLine) (bytes : List ℕ) (r : Replayed) : Type 0 where
+pub record IsReplayOn (lines : ConfigLines) (bytes : List ℕ) (r : Replayed) : Type 0 where
   pub txns : List TxnPieces
   pub recording : IsRecording bytes txns
   pub replayed : IsReplayed lines txns r
 
 -- the journals are those of an outcome: of recorded transactions, or of those that numbers stand for, in
--- their order
+-- their order, and behind them of the hook plugins of the lines
 abbrev pub AreJournalsAt : Outcome → List Log → Type 0
 AreJournalsAt (Report lines bytes) js = (r : Replayed) × IsReplayOn lines bytes r × (js ≡ r.journals.items)
 AreJournalsAt (Summary numbers) js =

@@ -3,7 +3,7 @@
 use Rattle.std.specs.Prelude.{◌≡◌, ℕ, ◌+◌, ◌*◌, ◌%◌, ◌^◌, List, [], ◌∷◌, ◌++◌, length, codes}
 use Rattle.std.specs.Fmt.{decimal}
 use Rattle.ts_config.specs.Bytes.{letter_a}
-use Rattle.ts_config.specs.declared.setup.TransformLine.{TransformLine}
+use Rattle.ts_config.specs.Setup.{ConfigLines, transforms_alone}
 use Rattle.ts_config.specs.declared.setup.TransformLine.TheVariants as t
 use Rattle.ts_hooks.specs.declared.txn_end.TxnEnd.{TxnEnd}
 use Rattle.ts_hooks.specs.declared.txn_end.TxnEnd.TheVariants as e
@@ -28,8 +28,9 @@ abbrev pub letter_q : ℕ
 letter_q = 113
 
 -- its lines
-abbrev pub fixed_lines : List TransformLine
-fixed_lines = t.Null ∷ t.Map letter_a capital_a ∷ t.Drop letter_q ∷ t.Bnull ∷ t.Prepend (codes "<") ∷ []
+abbrev pub fixed_lines : ConfigLines
+fixed_lines = transforms_alone
+    (t.Null ∷ t.Map letter_a capital_a ∷ t.Drop letter_q ∷ t.Bnull ∷ t.Prepend (codes "<") ∷ [])
 
 -- the transactions that the numbers stand for
 abbrev pub txns_of : GenerateTask → List TxnPieces

@@ -1,6 +1,7 @@
 //! The command `generate`: a recording is made of three numbers and run on event threads under one
 //! configuration, and the summary of what its transactions came to is written. It reads no file.
 ghost use Rattle.std.specs.Prelude.{◌≡◌, ◌≤◌, IfOk};
+ghost use Rattle.ts_config.specs.Setup.{lines_of};
 ghost use Rattle.ts_proxy.specs.Outcome.{Summary};
 ghost use Rattle.ts_proxy.specs.Performed.{AreOfThreads, IsCarriedOut};
 ghost use Rattle.ts_proxy.specs.Summary.{fixed_lines, txns_of};
@@ -16,7 +17,7 @@ use crate::writing::write_all;
 use std::alloc::Global;
 use std::sync::Wait;
 use std::thread::Threads;
-use ts_config::TransformLine;
+use ts_config::{Setup, TransformLine};
 use ts_link::{Gate, NoMemory, Octets, Sink};
 use ts_record::generate;
 use ts_replay::Replayed;
@@ -24,26 +25,29 @@ use ts_replay::Replayed;
 // On how many event threads the transactions run.
 const THREADS: u32 = 4;
 
-// The lines of the configuration:
+// The configuration:
 // null_transform.so
 // map.so a A
 // drop.so q
 // bnull_transform.so
 // prepend.so <
-fn fixed_lines(alloc: Global) -> Result<Vec<TransformLine>, NoMemory>
-    ensures { IfOk result (λ lines. lines.items ≡ fixed_lines) }
+fn fixed_setup(alloc: Global) -> Result<Setup, NoMemory>
+    ensures { IfOk result (λ setup. lines_of setup ≡ fixed_lines) }
 {
     let text = Octets::copy_of(alloc, b"<")?;
-    let mut lines = Vec::with_capacity(alloc, 5)?;
-    lines.push(TransformLine::Null)?;
-    lines.push(TransformLine::Map {
+    let mut transforms = Vec::with_capacity(alloc, 5)?;
+    transforms.push(TransformLine::Null)?;
+    transforms.push(TransformLine::Map {
         from: b'a',
         to: b'A',
     })?;
-    lines.push(TransformLine::Drop { byte: b'q' })?;
-    lines.push(TransformLine::Bnull)?;
-    lines.push(TransformLine::Prepend { text })?;
-    Ok(lines)
+    transforms.push(TransformLine::Drop { byte: b'q' })?;
+    transforms.push(TransformLine::Bnull)?;
+    transforms.push(TransformLine::Prepend { text })?;
+    Ok(Setup {
+        transforms,
+        plugins: Vec::new(alloc),
+    })
 }
 
 // Makes the recording that the numbers stand for, and runs it. It is held once: its pieces become the links
@@ -57,9 +61,9 @@ fn run_generated<G: Gate + Sync, R: Threads + Wait + Sync>(
     requires { numbers.count ≤ MOST_TXNS }
     ensures { IfOk result (IsReplayed fixed_lines (txns_of numbers)) }
 {
-    let lines = fixed_lines(alloc)?;
+    let setup = fixed_setup(alloc)?;
     let recording = generate(alloc, numbers.seed, numbers.count, numbers.size)?;
-    run_txns(rt, alloc, lines, recording.txns, THREADS, gate)
+    run_txns(rt, alloc, setup, recording.txns, THREADS, gate)
 }
 
 // Writes the summary of transactions that were run.

@@ -1,21 +1,22 @@
 //! The files of a command are read in the order of the work: the configuration, the files of its append
 //! lines, and then the body or the recording.
-ghost use Rattle.std.specs.Prelude.{◌≡◌, ◌∷◌, ◌++◌, ◌≤◌, [], List, ℕ, length, true, All, IfOk, IfErr, OnOk};
+ghost use Rattle.std.specs.Prelude.{◌≡◌, ◌∷◌, ◌++◌, [], List, ℕ, length, true, All, IfOk, IfErr, OnOk};
 ghost use Rattle.std.specs.Str.{IsUtf8};
-ghost use Rattle.ts_config.specs.Bytes.{most_transforms};
-ghost use Rattle.ts_config.specs.Setup.{HasFileName};
+ghost use Rattle.ts_config.specs.Setup.{ConfigLines, HasFileName, lines_of};
 ghost use Rattle.ts_config.specs.declared.setup.TransformLine.{TransformLine};
 ghost use Rattle.ts_config.specs.declared.setup.TransformLine.TheVariants as t;
 ghost use Rattle.ts_proxy.specs.declared.answer.NamedFile.TheVariants as named;
-ghost use Rattle.ts_proxy.specs.Outcome.{Outcome, most_append, opened, line_filled, filled, performed, set_up, worked};
+ghost use Rattle.ts_proxy.specs.Outcome.{Outcome, most_append, opened, line_filled, filled, lines_filled};
+ghost use Rattle.ts_proxy.specs.Outcome.{performed, set_up, worked};
 ghost use Rattle.ts_proxy.specs.Words.{Command};
 ghost use Rattle.ts_proxy.specs.Answers.{Leads, IsOfReading, IsUnfailed, OnCannotRead, IsNamedBy, ReachesFile, IsReadBy};
+ghost use Rattle.ts_replay.specs.Recorded.{HasPlainLines};
 
 use crate::answer::{Answer, NamedFile, refused};
 use std::alloc::Global;
 use std::collections::VecDeque;
 use std::str;
-use ts_config::{ConfigRefusal, TransformLine, read_config};
+use ts_config::{ConfigRefusal, Setup, TransformLine, read_setup};
 use ts_link::{NoMemory, Octets, Shelf};
 
 const MOST_CONFIG: u64 = 1_048_576;
@@ -28,7 +29,7 @@ const MOST_INPUT: u64 = 67_108_864;
 /// name, and the bytes of its body or recording.
 #[derive(Drop)]
 pub struct Files {
-    pub lines: Vec<TransformLine>,
+    pub setup: Setup,
     pub input: Octets,
 }
 
@@ -79,7 +80,7 @@ fn keep(found: &mut Vec<TransformLine>, line: TransformLine) -> Result<(), NoMem
     Ok(())
 }
 
-// The lines with the texts of the files that they name.
+// The transform lines with the texts of the files that they name.
 fn fill_lines<S: Shelf>(
     alloc: Global,
     shelf: &mut S,
@@ -108,17 +109,41 @@ fn fill_lines<S: Shelf>(
     Ok(found)
 }
 
+// The lines of a configuration, with the texts of the files that its transform lines name.
+fn fill_setup<S: Shelf>(alloc: Global, shelf: &mut S, setup: Setup) -> Result<Setup, Answer>
+    requires { All HasFileName setup.transforms.items }
+    ensures told { S.tells ≡ true → (config input : List ℕ) (next : ConfigLines → Outcome) →
+        Leads config input result (lines_filled (S.seen shelf.old).file (lines_of setup) next)
+        (λ s. next (lines_of s)) }
+    ensures named { S.tells ≡ true →
+        IfErr result (λ a. OnCannotRead a (ReachesFile (S.seen shelf.old).file setup.transforms.items)) }
+    ensures count { IfOk result (λ s. length s.transforms.items ≡ length setup.transforms.items) }
+    ensures plugins { IfOk result (λ s. s.plugins.items ≡ setup.plugins.items) }
+    ensures files { S.tells ≡ true → (S.seen shelf.new).file ≡ (S.seen shelf.old).file }
+    ensures same { OnOk result (IsUnfailed (S.seen shelf.old) (S.seen shelf.new)) }
+    ensures cause { IfErr result (λ a. IsOfReading a (S.seen shelf.old) (S.seen shelf.new)) }
+{
+    let Setup {
+        transforms,
+        plugins,
+    } = setup;
+    match fill_lines(alloc, shelf, VecDeque::from_vec(transforms)) {
+        Ok(transforms) => Ok(Setup {
+            transforms,
+            plugins,
+        }),
+        Err(answer) => Err(answer),
+    }
+}
+
 // The lines of a configuration, with the texts of the files that they name.
-fn read_setup<S: Shelf>(
-    alloc: Global,
-    shelf: &mut S,
-    config: &str,
-) -> Result<Vec<TransformLine>, Answer>
-    ensures told { S.tells ≡ true → (input : List ℕ) (next : List TransformLine → Outcome) →
-        Leads config.now input result (set_up (S.seen shelf.old).file config.now next) (λ ls. next ls.items) }
+fn set_up<S: Shelf>(alloc: Global, shelf: &mut S, config: &str) -> Result<Setup, Answer>
+    ensures told { S.tells ≡ true → (input : List ℕ) (next : ConfigLines → Outcome) →
+        Leads config.now input result (set_up (S.seen shelf.old).file config.now next)
+        (λ s. next (lines_of s)) }
     ensures named { S.tells ≡ true →
         IfErr result (λ a. OnCannotRead a (IsReadBy (S.seen shelf.old) config.now)) }
-    ensures few { IfOk result (λ ls. length ls.items ≤ most_transforms) }
+    ensures lines { IfOk result HasPlainLines }
     ensures files { S.tells ≡ true → (S.seen shelf.new).file ≡ (S.seen shelf.old).file }
     ensures same { OnOk result (IsUnfailed (S.seen shelf.old) (S.seen shelf.new)) }
     ensures cause { IfErr result (λ a. IsOfReading a (S.seen shelf.old) (S.seen shelf.new)) }
@@ -127,8 +152,8 @@ fn read_setup<S: Shelf>(
         Ok(bytes) => bytes,
         Err(fault) => return Err(refused(fault, NamedFile::Config)),
     };
-    match read_config(alloc, bytes.bytes()) {
-        Ok(setup) => fill_lines(alloc, shelf, VecDeque::from_vec(setup.transforms)),
+    match read_setup(alloc, bytes.bytes()) {
+        Ok(setup) => fill_setup(alloc, shelf, setup),
         Err(ConfigRefusal::Fault(fault)) => Err(Answer::BadLine(fault)),
         Err(ConfigRefusal::NoMemory) => Err(Answer::OutOfMemory),
     }
@@ -143,18 +168,18 @@ pub fn read_files<S: Shelf>(
 ) -> Result<Files, Answer>
     ensures told { S.tells ≡ true → (command : Command) → Leads config.now input.now result
         (performed command (S.seen shelf.old).file config.now input.now)
-        (λ files. worked command files.lines.items files.input) }
+        (λ files. worked command (lines_of files.setup) files.input) }
     ensures named { S.tells ≡ true →
         IfErr result (λ a. OnCannotRead a (IsReadBy (S.seen shelf.old) config.now)) }
-    ensures few { IfOk result (λ files. length files.lines.items ≤ most_transforms) }
+    ensures lines { IfOk result (λ files. HasPlainLines files.setup) }
     ensures cause { IfErr result (λ a. IsOfReading a (S.seen shelf.old) (S.seen shelf.new)) }
 {
-    let lines = match read_setup(alloc, shelf, config) {
-        Ok(lines) => lines,
+    let setup = match set_up(alloc, shelf, config) {
+        Ok(setup) => setup,
         Err(answer) => return Err(answer),
     };
     match shelf.read(alloc, input, MOST_INPUT) {
-        Ok(input) => Ok(Files { lines, input }),
+        Ok(input) => Ok(Files { setup, input }),
         Err(fault) => Err(refused(fault, NamedFile::Input)),
     }
 }

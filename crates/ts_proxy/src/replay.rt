@@ -1,14 +1,14 @@
 //! The command `replay`: the transactions of a recording are run on event threads, and the report on them is
 //! written.
-ghost use Rattle.std.specs.Prelude.{◌<◌, ◌≤◌, ℕ, List, length, IfErr, IfOk};
-ghost use Rattle.ts_config.specs.Bytes.{most_transforms};
-ghost use Rattle.ts_config.specs.declared.setup.TransformLine.{TransformLine};
+ghost use Rattle.std.specs.Prelude.{◌<◌, ◌≤◌, ℕ, List, IfErr, IfOk};
+ghost use Rattle.ts_config.specs.Setup.{ConfigLines, lines_of};
 ghost use Rattle.ts_proxy.specs.Answers.{IsOfRunning};
 ghost use Rattle.ts_proxy.specs.Outcome.{Report};
 ghost use Rattle.ts_proxy.specs.Performed.{AreOfThreads, IsCarriedOut, IsPerformed, IsReplayOn};
 ghost use Rattle.ts_proxy.specs.Words.{Over, Replay};
 ghost use Rattle.ts_record.specs.Grammar.{IsRecording};
 ghost use Rattle.ts_record.specs.Report.{AreReported};
+ghost use Rattle.ts_replay.specs.Recorded.{HasPlainLines};
 ghost use Rattle.ts_thread.specs.declared.TheConstants.{MOST_THREADS};
 
 use crate::answer::{Answer, Performed};
@@ -19,7 +19,7 @@ use crate::threaded::{performed_after, run_txns};
 use std::alloc::Global;
 use std::sync::Wait;
 use std::thread::Threads;
-use ts_config::TransformLine;
+use ts_config::Setup;
 use ts_link::{Gate, NoMemory, Octets, Shelf, Sink};
 use ts_record::{RecordedTxn, RecordingRefusal, read_recording};
 use ts_replay::Replayed;
@@ -36,25 +36,25 @@ fn read_txns(alloc: Global, bytes: Octets) -> Result<Vec<RecordedTxn>, Answer>
     }
 }
 
-// Runs the transactions of the recording in these bytes under the lines.
+// Runs the transactions of the recording in these bytes under the lines of a configuration.
 fn run_recording<G: Gate + Sync, R: Threads + Wait + Sync>(
     rt: &R,
     alloc: Global,
-    lines: Vec<TransformLine>,
+    setup: Setup,
     bytes: Octets,
     threads: u32,
     gate: &G,
 ) -> Result<Replayed, Answer>
-    requires lines { length lines.items ≤ most_transforms }
+    requires lines { HasPlainLines setup }
     requires threads { (0 < threads) × (threads ≤ MOST_THREADS) }
-    ensures replayed { IfOk result (IsReplayOn lines.items bytes) }
+    ensures replayed { IfOk result (IsReplayOn (lines_of setup) bytes) }
     ensures refusal { IfErr result (IsOfRunning bytes) }
 {
     let txns = match read_txns(alloc, bytes) {
         Ok(txns) => txns,
         Err(answer) => return Err(answer),
     };
-    match run_txns(rt, alloc, lines, txns, threads, gate) {
+    match run_txns(rt, alloc, setup, txns, threads, gate) {
         Ok(replayed) => Ok(replayed),
         Err(NoMemory) => Err(Answer::OutOfMemory),
     }
@@ -63,7 +63,7 @@ fn run_recording<G: Gate + Sync, R: Threads + Wait + Sync>(
 // Writes the report on transactions that were run. Their journals are left.
 fn send_report<K: Sink>(alloc: Global, replayed: Replayed, out: &mut K) -> Performed
     requires reported { AreReported replayed.blocks.items }
-    ensures { (lines : List TransformLine) (bytes : List ℕ) → IsReplayOn lines bytes replayed →
+    ensures { (lines : ConfigLines) (bytes : List ℕ) → IsReplayOn lines bytes replayed →
         IsCarriedOut AreOfThreads (Report lines bytes) K.tells (K.seen out.old) (K.seen out.new)
         result.answer result.journals.items }
 {
@@ -87,11 +87,11 @@ pub fn perform_replay<S: Shelf, K: Sink, G: Gate + Sync, R: Threads + Wait + Syn
         S.tells K.tells (S.seen shelf.old) (S.seen shelf.new) (K.seen out.old) (K.seen out.new)
         result.answer result.journals.items }
 {
-    let Files { lines, input } = match read_files(alloc, shelf, task.config, task.recording) {
+    let Files { setup, input } = match read_files(alloc, shelf, task.config, task.recording) {
         Ok(files) => files,
         Err(answer) => return Performed::without(alloc, answer),
     };
-    match run_recording(rt, alloc, lines, input, task.threads, gate) {
+    match run_recording(rt, alloc, setup, input, task.threads, gate) {
         Ok(replayed) => send_report(alloc, replayed, out),
         Err(answer) => Performed::without(alloc, answer),
     }

@@ -26,9 +26,9 @@ use ts_link::{Gate, Shelf, Sink};
 
 /// How the program ended: 0 the job was done; 2 the words are of no command; 3 a line of the configuration is
 /// not in the grammar; 4 the input is no recording; 5 a file could not be read; 6 the output could not be
-/// written; 7 memory was lacking, or the group of a transaction had all the turns that it gets, which takes
-/// years; 9 a file is longer than its limit. With status 0 there are the journals of the groups that did the
-/// job, with another none.
+/// written; 7 memory was lacking, or a group had all the turns that it gets, which takes years; 9 a file is
+/// longer than its limit. With status 0 there are the journals of the groups that did the job, with another
+/// none.
 #[derive(Drop)]
 pub struct Ended {
     pub status: u8,
@@ -128,8 +128,8 @@ pub fn run<S: Shelf, K: Sink, E: Sink, G: Gate + Sync, R: Threads + Wait + Sync>
         (K.seen out.old) (K.seen out.new) }
     ensures quiet { K.tells ≡ true → IsQuiet result.status → TookNothing (K.seen out.old) (K.seen out.new) }
     // With status 0 the journal of the group of `transform`, which is that of a serial driver, or those of
-    // the groups of the recorded or generated transactions, in their order. Each is lawful and not held, with
-    // nothing pending.
+    // the groups of the recorded or generated transactions, in their order, and behind them those of the
+    // hook plugins, in the order of their lines. Each is lawful and not held, with nothing pending.
     ensures journals { JournalsAt S.tells (S.seen shelf.old) (task_of words.now)
         result.status result.journals.items }
     // What err took: the line of an answer that has this status, and that comes at the outcome. After a

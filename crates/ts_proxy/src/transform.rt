@@ -1,4 +1,4 @@
-//! The command `transform`: a body passes through the lines of a configuration, into a sink.
+//! The command `transform`: a body passes through the transform lines of a configuration, into a sink.
 ghost use Rattle.std.specs.Prelude.{◌≡◌, List, ℕ, IfOk};
 ghost use Rattle.ts_transform.specs.Flow.{compose};
 ghost use Rattle.ts_config.specs.Bodies.{compose_lines};
@@ -74,7 +74,8 @@ fn send_body<K: Sink>(
     }
 }
 
-/// Writes a body through the lines of a configuration, both of which the shelf has under these names.
+/// Writes a body through the transform lines of a configuration, both of which the shelf has under these
+/// names. The lines of hook plugins have no effect on it.
 pub fn perform_transform<S: Shelf, K: Sink>(
     alloc: Global,
     task: &TransformTask<'_>,
@@ -85,9 +86,9 @@ pub fn perform_transform<S: Shelf, K: Sink>(
         S.tells K.tells (S.seen shelf.old) (S.seen shelf.new) (K.seen out.old) (K.seen out.new)
         result.answer result.journals.items }
 {
-    let Files { lines, input } = match read_files(alloc, shelf, task.config, task.body) {
+    let Files { setup, input } = match read_files(alloc, shelf, task.config, task.body) {
         Ok(files) => files,
         Err(answer) => return Performed::without(alloc, answer),
     };
-    send_body(alloc, lines.as_slice(), input, out)
+    send_body(alloc, setup.transforms.as_slice(), input, out)
 }

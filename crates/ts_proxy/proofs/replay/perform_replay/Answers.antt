@@ -1,4 +1,5 @@
 -- The files are read, the transactions run, and the report written.
+use Rattle.ts_config.specs.Setup.{lines_of}
 use Rattle.ts_proxy.specs.Words.{Replay}
 use Rattle.ts_proxy.proofs.Performing.{performed-unread, performed-worked, work-unrun}
 use Rattle.ts_proxy.proofs.replay.perform_replay.Goals as goal
@@ -20,8 +21,8 @@ returns-in-Ok-run_recording g c =
     performed-worked Replay c.args.task.now.config.now c.args.task.now.recording.now g.S.Shelf.tells
     g.K.Sink.tells
     (g.S.Shelf.seen c.args.shelf.now) (g.S.Shelf.seen c.read_files.new.shelf) _ _ _ _
-    c.in-Ok.files.lines.items c.in-Ok.files.input c.in-Ok.ensures.told
-    (c.send_report.ensures c.in-Ok.files.lines.items c.in-Ok.files.input
+    (lines_of c.in-Ok.files.setup) c.in-Ok.files.input c.in-Ok.ensures.told
+    (c.send_report.ensures (lines_of c.in-Ok.files.setup) c.in-Ok.files.input
     c.in-Ok-run_recording.ensures.replayed)
 
 pub returns-in-Err-run_recording : goal.returns-in-Err-run_recording
@@ -30,6 +31,7 @@ returns-in-Err-run_recording g c =
     (performed-worked Replay c.args.task.now.config.now c.args.task.now.recording.now
     g.S.Shelf.tells g.K.Sink.tells
     (g.S.Shelf.seen c.args.shelf.now) (g.S.Shelf.seen c.read_files.new.shelf) _ _ _ _
-    c.in-Ok.files.lines.items c.in-Ok.files.input c.in-Ok.ensures.told
-    (work-unrun c.in-Ok.files.lines.items c.in-Ok.files.input g.K.Sink.tells _ c.in-Err-run_recording.answer _
-    c.in-Err-run_recording.ensures.refusal c.without-in-Err-run_recording.ensures.none))
+    (lines_of c.in-Ok.files.setup) c.in-Ok.files.input c.in-Ok.ensures.told
+    (work-unrun (lines_of c.in-Ok.files.setup) c.in-Ok.files.input g.K.Sink.tells _
+    c.in-Err-run_recording.answer _ c.in-Err-run_recording.ensures.refusal
+    c.without-in-Err-run_recording.ensures.none))

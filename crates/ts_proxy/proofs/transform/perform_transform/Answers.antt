@@ -1,5 +1,6 @@
 use Rattle.std.proofs.Common.{subst}
 use Rattle.ts_config.specs.Bodies.{compose_lines}
+use Rattle.ts_config.specs.Setup.{lines_of}
 use Rattle.ts_proxy.specs.Outcome.{Text}
 use Rattle.ts_proxy.specs.Performed.{IsCarriedOut, IsOfBody}
 use Rattle.ts_proxy.specs.Words.{Transform}
@@ -11,7 +12,7 @@ returns g c =
     performed-worked Transform c.args.task.now.config.now c.args.task.now.body.now g.S.Shelf.tells
     g.K.Sink.tells
     (g.S.Shelf.seen c.args.shelf.now) (g.S.Shelf.seen c.read_files.new.shelf) _ _ _ _
-    c.in-Ok.files.lines.items c.in-Ok.files.input c.in-Ok.ensures.told
+    (lines_of c.in-Ok.files.setup) c.in-Ok.files.input c.in-Ok.ensures.told
     (subst (λ ls. IsCarriedOut IsOfBody (Text (compose_lines ls c.in-Ok.files.input)) g.K.Sink.tells
     (g.K.Sink.seen c.args.out.now) (g.K.Sink.seen c.send_body.new.out)
     c.send_body.result.answer c.send_body.result.journals.items) c.as_slice.ensures.value c.send_body.ensures)
