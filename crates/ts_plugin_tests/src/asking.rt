@@ -7,8 +7,11 @@ use ts_config::{PluginLine, Rule, Side, Sites};
 use ts_group::{Group, ONLY_SEAT};
 use ts_hooks::{Hook, HookAnswer};
 use ts_link::{NoMemory, Octets};
-use ts_plugin::{HookQuestion, HookReply, Plugin, next_line};
+use ts_plugin::{HookQuestion, HookReply, Plugin, table_of};
 use ts_wire::{Field, Fields, plugin_host};
+
+/// How many lines a row has at most.
+pub const MOST_LINES: usize = 64;
 
 /// What a header rule line does with a field.
 #[derive(Clone, Copy)]
@@ -99,13 +102,16 @@ pub fn ask_in_turn(
         host,
         fields: given,
     } = question;
+    if lines.len() > MOST_LINES {
+        return Err("a row has few lines")?;
+    }
+    let table = table_of(alloc, lines, 0)?;
     let mut fields = given;
-    let mut from = 0;
-    for _line in lines {
-        let Some(place) = next_line(lines, hook, from) else {
+    for place in 0..lines.len() {
+        let Some(group) = table.next(hook, place) else {
             break;
         };
-        let Some(line) = lines.get(place) else {
+        let Some(line) = lines.get(group as usize) else {
             return Err("a line stands there")?;
         };
         let host = Octets::copy_of(alloc, host.bytes())?;
@@ -114,7 +120,6 @@ pub fn ask_in_turn(
             return Err("a header rule lets go on")?;
         };
         fields = reply.fields;
-        from = place + 1;
     }
     Ok(fields)
 }

@@ -1,13 +1,11 @@
-//! The plugin of a line in a group: what its journal records, and the slot that it stands in.
+//! The plugin of a line in a group: what its journal records of a question.
 
 use crate::asking::{deny_line, question_for};
-use std::snapshot::Snapshot;
 use std::test::Fail;
-use ts_group::{Group, Handling, ONLY_SEAT, OWN_KEY};
+use ts_group::{Group, ONLY_SEAT, OWN_KEY};
 use ts_hooks::{Hook, HookAnswer};
 use ts_journal::{Entry, Event};
-use ts_plugin::{Plugin, PluginTag, asked_in_order};
-use ts_slot::Slots;
+use ts_plugin::{Plugin, asked_in_order};
 
 // The journal of a plugin that is asked at the moment 5.
 const OF_A_QUESTION: &[Entry] = &[
@@ -45,39 +43,5 @@ fn a_question_is_recorded_and_leaves_nothing_pending(rt: HostRuntime) -> Result<
     assert_eq!(rt; group.next_due(), None);
     assert_eq!(rt; group.journal().entries(), OF_A_QUESTION);
     asked_in_order();
-    Ok(())
-}
-
-// Started, a plugin sets no event; an event that is set for it is handled, and nothing comes of it.
-#[test]
-fn a_plugin_sets_no_event(rt: HostRuntime) -> Result<(), Fail> {
-    let line = deny_line(rt.alloc(), &[b"b"])?;
-    let mut group = Group::make(rt.alloc(), Plugin::make(rt.alloc(), &line)?, 0)?;
-    group.begin_turn(1, ONLY_SEAT, 0)?;
-    group.start();
-    assert_eq!(rt; group.next_due(), None);
-    let _action = group.cx().schedule(OWN_KEY, 0)?;
-    let handling = group.handle(1, 0)?;
-    assert!(rt; matches!(handling, Handling::Handled { events: 1 }));
-    assert_eq!(rt; group.next_due(), None);
-    Ok(())
-}
-
-#[test]
-fn a_plugin_stands_in_a_slot(rt: HostRuntime) -> Result<(), Fail> {
-    let line = deny_line(rt.alloc(), &[b"b"])?;
-    let mut tags = Vec::new(rt.alloc());
-    tags.push(PluginTag {
-        line: Snapshot::of(&line),
-    })?;
-    let mut groups = Vec::new(rt.alloc());
-    groups.push(Group::make(rt.alloc(), Plugin::make(rt.alloc(), &line)?, 0)?)?;
-    let Ok((slots, seat)) = Slots::make(rt.alloc(), groups, tags) else {
-        return Err("ample memory")?;
-    };
-    let Ok(groups) = slots.close(rt.alloc(), seat) else {
-        return Err("ample memory")?;
-    };
-    assert_eq!(rt; groups.len(), 1);
     Ok(())
 }

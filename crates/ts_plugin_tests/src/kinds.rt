@@ -1,53 +1,74 @@
 //! Worlds of one of two kinds, of which each is handled, asked and told as the world of its kind.
 
-ghost use Rattle.std.specs.Prelude.{◌≡◌, None, false};
+ghost use Rattle.std.specs.Prelude.{◌≡◌, None, false, true, IfOk, IsSome};
+ghost use Rattle.ts_group.specs.Answers.{Holds};
+ghost use Rattle.ts_group.specs.Context.{Context, IsFresh};
+ghost use Rattle.ts_journal.specs.State.{State};
 
+use std::alloc::Global;
 use std::test::Fail;
-use ts_group::{Either, Group, Handling, ONLY_SEAT};
-use ts_group_tests::burst::Burst;
-use ts_group_tests::drive::ask_for;
+use ts_group::{Either, Group, Handling, ONLY_SEAT, World};
+use ts_group_tests::burst::{Burst, CALLS};
+use ts_group_tests::drive::{Driven, ask_for, drive};
 use ts_group_tests::peer::{ASKED, Peer};
 use ts_group_tests::steps::{Countdown, Stepper};
+use ts_link::NoMemory;
+
+// A group of a world that was started in its first turn, which is still held.
+fn begin<W: World + Drop>(alloc: Global, world: W) -> Result<Group<W>, NoMemory>
+    requires { (now : Context) → IsFresh 0 now → W.sound world now.log.state now.roles }
+    ensures turn { IfOk result (λ g. g.cx.log.state.held ≡ true) }
+    ensures sound { IfOk result (λ g. Holds W.sound g) }
+{
+    let mut group = Group::make(alloc, world, 0)?;
+    group.begin_turn(1, ONLY_SEAT, 0)?;
+    group.start();
+    Ok(group)
+}
+
+// A group of a world that was started and driven until nothing was pending.
+fn run<W: World + Drop>(alloc: Global, world: W) -> Result<Group<W>, Fail>
+where
+    W::Question: Drop,
+    requires fresh { (now : Context) → IsFresh 0 now → W.sound world now.log.state now.roles }
+    requires tells { (w : W) (s : State) → IsSome (W.left w s) }
+{
+    let mut group = begin(alloc, world)?;
+    group.give_turn();
+    let Driven::Done = drive(&mut group)? else {
+        return Err("nothing is pending at the end")?;
+    };
+    Ok(group)
+}
 
 type Working = Either<Stepper<Countdown>, Burst>;
 
+// A world of each kind does its work: a step at each event, and a burst of calls, each of which is an event.
 #[test]
-fn a_world_of_the_first_kind_works(rt: HostRuntime) -> Result<(), Fail> {
-    let world: Working = Either::One(Stepper {
+fn a_world_of_each_kind_works(rt: HostRuntime) -> Result<(), Fail> {
+    let stepper: Working = Either::One(Stepper {
         part: Countdown { left: 1 },
         done: 0,
         whole: false,
     });
-    let mut group = Group::make(rt.alloc(), world, 0)?;
-    group.begin_turn(1, ONLY_SEAT, 0)?;
-    group.start();
-    assert!(rt; matches!(group.handle(1, 0)?, Handling::Handled { events: 1 }));
-    assert!(rt; matches!(group.handle(2, 1)?, Handling::Handled { events: 1 }));
-    assert_eq!(rt; group.next_due(), None);
+    let group = run(rt.alloc(), stepper)?;
+    assert_eq!(rt; group.journal().counts().handled, 2);
     let Either::One(stepper) = group.world() else {
         return Err("it stays of its kind")?;
     };
     assert_eq!(rt; (stepper.done, stepper.part.left), (1, 0));
-    Ok(())
-}
-
-#[test]
-fn a_world_of_the_other_kind_works(rt: HostRuntime) -> Result<(), Fail> {
-    let world: Working = Either::Other(Burst {
+    let burst: Working = Either::Other(Burst {
         target: None,
         bursts: 1,
         done: 0,
         handled: 0,
         whole: false,
     });
-    let mut group = Group::make(rt.alloc(), world, 0)?;
-    group.begin_turn(1, ONLY_SEAT, 0)?;
-    group.start();
-    assert!(rt; matches!(group.handle(1, 0)?, Handling::Handled { events: 64 }));
+    let group = run(rt.alloc(), burst)?;
     let Either::Other(burst) = group.world() else {
         return Err("it stays of its kind")?;
     };
-    assert_eq!(rt; (burst.done, burst.handled), (1, 64));
+    assert_eq!(rt; (burst.done, burst.handled), (1, 1 + u64::from(CALLS)));
     Ok(())
 }
 
@@ -76,11 +97,9 @@ fn peer(only_asked: bool, todo: u32) -> Peer
 fn a_world_asks_one_of_the_other_kind(rt: HostRuntime) -> Result<(), Fail> {
     let asking: Asking = Either::One(peer(false, 7));
     let adding: Asking = Either::Other(peer(true, 0));
-    let mut asker = Group::make(rt.alloc(), asking, 0)?;
+    let mut asker = begin(rt.alloc(), asking)?;
     let mut adder = Group::make(rt.alloc(), adding, 0)?;
-    asker.begin_turn(1, ONLY_SEAT, 0)?;
     adder.begin_turn(1, ONLY_SEAT, 0)?;
-    asker.start();
     let Handling::Asks {
         group,
         question,

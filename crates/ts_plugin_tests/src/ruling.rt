@@ -1,13 +1,15 @@
 //! Header rules: what they make of the fields at their own hook and at others, alone and in the order of
 //! their lines.
 
-use crate::asking::{Word, Written, ask_in_turn, deny_line, header_line, question_about, text_of};
+use crate::asking::{
+    MOST_LINES, Word, Written, ask_in_turn, deny_line, header_line, question_about, text_of,
+};
 use std::alloc::Global;
 use std::test::Fail;
 use ts_config::{PluginLine, Side};
 use ts_hooks::Hook;
 use ts_link::Octets;
-use ts_plugin::{hook_of, next_line};
+use ts_plugin::{hook_of, table_of};
 
 // Some lines, the fields before them, and the fields after them at the hook of each side.
 struct Row {
@@ -119,29 +121,34 @@ fn rules_are_applied_in_the_order_of_their_lines(rt: HostRuntime) -> Result<(), 
     Ok(())
 }
 
-// A hook, a place, and where the next line of the hook stands from there on.
-const PLACES: [(Hook, usize, Option<usize>); 10] = [
-    (Hook::OsDns, 0, Some(0)),
+// The group of the first line's plugin.
+const FIRST: u32 = 7;
+
+// A hook, a place, and the group of the plugin that is asked there.
+const PLACES: [(Hook, usize, Option<u32>); 10] = [
+    (Hook::OsDns, 0, Some(7)),
     (Hook::OsDns, 1, None),
-    (Hook::SendRequestHdr, 0, Some(1)),
-    (Hook::SendRequestHdr, 1, Some(1)),
-    (Hook::SendRequestHdr, 2, Some(3)),
+    (Hook::SendRequestHdr, 0, Some(8)),
+    (Hook::SendRequestHdr, 1, Some(10)),
+    (Hook::SendRequestHdr, 2, None),
     (Hook::SendRequestHdr, 4, None),
-    (Hook::SendResponseHdr, 0, Some(2)),
-    (Hook::SendResponseHdr, 4, Some(4)),
-    (Hook::SendResponseHdr, 9, None),
+    (Hook::SendResponseHdr, 0, Some(9)),
+    (Hook::SendResponseHdr, 1, Some(11)),
+    (Hook::SendResponseHdr, 2, None),
     (Hook::TxnStart, 0, None),
 ];
 
 #[test]
-fn the_lines_of_a_hook_are_found_in_their_order(rt: HostRuntime) -> Result<(), Fail> {
+fn the_plugins_of_a_hook_are_asked_in_the_order_of_their_lines(
+    rt: HostRuntime,
+) -> Result<(), Fail> {
     let lines = lines_of(rt.alloc(), &ROWS[7])?;
-    for (place, (hook, from, found)) in PLACES.iter().enumerate() {
-        assert_eq!(rt;
-            next_line(lines.as_slice(), *hook, *from),
-            *found,
-            "row {place}"
-        );
+    if lines.len() > MOST_LINES {
+        return Err("a row has few lines")?;
+    }
+    let table = table_of(rt.alloc(), lines.as_slice(), FIRST)?;
+    for (row, (hook, place, group)) in PLACES.iter().enumerate() {
+        assert_eq!(rt; table.next(*hook, *place), *group, "row {row}");
     }
     let Some(first) = lines.as_slice().first() else {
         return Err("a deny list stands first")?;
