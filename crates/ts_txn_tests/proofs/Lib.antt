@@ -1,2 +1,3 @@
 pub mod Begun
 pub mod ByFinish
+pub mod Rows

@@ -122,7 +122,7 @@ fn an_upload_that_is_refused_is_answered_by_400(rt: HostRuntime) -> Result<(), F
 }
 
 // What a transaction tells before its end, and how it ends.
-fn told_of(alloc: Global) -> Result<(Told, Option<TxnEnd>), Refusal> {
+fn told_of(alloc: Global) -> Result<(Option<Told>, Option<TxnEnd>), Refusal> {
     let ended = run(alloc, b"", b"", &giving(GET), Some(giving(ABC)))?;
     Ok((ended.told, ended.parts.end))
 }
@@ -134,6 +134,6 @@ fn a_transaction_tells_its_number_origin_and_end(rt: HostRuntime) -> Result<(), 
         is_dialed: true,
         end: None,
     };
-    assert_eq!(rt; told_of(rt.alloc())?, (told, Some(TxnEnd::Whole)));
+    assert_eq!(rt; told_of(rt.alloc())?, (Some(told), Some(TxnEnd::Whole)));
     Ok(())
 }

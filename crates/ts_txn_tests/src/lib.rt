@@ -21,6 +21,8 @@ mod lines;
 #[cfg(test)]
 mod memory;
 #[cfg(test)]
+mod misses;
+#[cfg(test)]
 mod nets;
 #[cfg(test)]
 mod plan;

@@ -21,6 +21,13 @@ ana\r\n0\r\n\r\n";
 
 const FRONT: u32 = 72;
 
+// What the origin gets of a request after a rule, and the client's head after another.
+const RULED_SENT: &[u8] =
+    b"GET / HTTP/1.1\r\nhost: a\r\nx-a: 1\r\nvia: 1.1 tsx\r\nconnection: close\r\n\r\n";
+
+const RULED: &[u8] = b"HTTP/1.1 200 OK\r\nx-b: 2\r\nvia: 1.1 tsx\r\ncontent-length: 3\r\n\
+connection: close\r\n\r\n";
+
 // Whether a transaction came out as stated, or lacked memory and gave a front.
 fn judge_spare(
     alloc: Global,
@@ -60,8 +67,14 @@ fn check_again(alloc: Global, row: &Row<'_>, gives: &[u8]) -> Result<Finding, Re
 #[test]
 fn an_exchange_is_whole_or_a_front(rt: HostRuntime) -> Result<(), Fail> {
     let lines = b"drop.so n\nbnull_transform.so\nprepend.so <\nappend_transform.so f\nmap.so a o\n";
-    let rows: [(Row<'_>, &[u8]); 3] = [
+    let ruled = Row {
+        lines: b"denylist.so b\nheader.so request set x-a 1\nheader.so response add x-b 2\n",
+        sent: RULED_SENT,
+        ..get(ABC, RULED, Mode::Plain, b"abc")
+    };
+    let rows: [(Row<'_>, &[u8]); 4] = [
         (get(ABC, SIZED, Mode::Plain, b"abc"), ABC),
+        (ruled, ABC),
         (html(lines, b"<booo<hr>"), CHUNKS),
         (own(GET, GET_SENT, BAD_GATEWAY, b"502 Bad Gateway\n"), b""),
     ];

@@ -138,6 +138,7 @@ fn serve_next(alloc: Global, net: &mut MemNet) -> Result<bool, Refusal> {
         told: _,
         parts,
         journal,
+        asked: _,
     } = exchange(alloc, setup, client, origin)?;
     net.retire(Retired { parts, journal })?;
     Ok(true)

@@ -5,13 +5,14 @@ use ts_config::ConfigRefusal;
 use ts_link::NoMemory;
 use ts_thread::Unfinished;
 
-/// Want of memory, a configuration that is not read or has too many lines, or a group that has had its last
-/// turn.
+/// Want of memory, a configuration that is not read or has too many lines, a group that has had its last
+/// turn, or a row in which no transaction stands first.
 #[derive(Clone, Copy, Debug, PartialEq, Eq)]
 pub enum Refusal {
     NoMemory,
     Lines,
     Worn,
+    NoTxn,
 }
 
 impl From<NoMemory> for Refusal {

@@ -1,261 +1,245 @@
-//! Hook plugin lines: rules for the fields of heads, and hosts that are denied.
+//! Hook plugin lines: rules for the fields of heads, in their order and letter case, and denied hosts.
 
-ghost use Rattle.std.specs.Prelude.{IfOk};
-ghost use Rattle.ts_txn.specs.Making.{HasFewLines};
-
-use crate::exchange::{exchange, setup_of, with_plugins};
+use crate::exchange::{EndedTxn, run};
 use crate::lines::FILE;
-use crate::plan::{giving, link_of, origin_of};
+use crate::plan::giving;
 use crate::refusal::Refusal;
-use crate::row::{Finding, Row, check_block_of, get, judge};
-use crate::stated::{ABC, FORBIDDEN, SIZED};
-use http_header::{HeaderName, HeaderValue};
+use crate::row::{Finding, Row, check, get};
+use crate::stated::{ABC, FORBIDDEN, GET, GET_SENT, SIZED};
 use std::alloc::Global;
 use std::test::Fail;
-use ts_config::{PluginLine, Rule, Setup, Side, Sites};
-use ts_link::Octets;
 use ts_wire::Mode;
 
-// The setup of a row with one more plugin line or two.
-fn ruled(
-    alloc: Global,
-    row: &Row<'_>,
-    first: PluginLine,
-    second: Option<PluginLine>,
-) -> Result<Setup, Refusal>
-    ensures { IfOk result (λ s. HasFewLines s 0) }
-{
-    let mut plugins = Vec::new(alloc);
-    plugins.push(first)?;
-    if let Some(second) = second {
-        plugins.push(second)?;
-    }
-    with_plugins(setup_of(alloc, row.lines, row.file)?, plugins)
-}
-
-// Whether a row comes out as stated with this setup, where the links give and take all at once.
-fn check_set(alloc: Global, setup: Setup, row: &Row<'_>) -> Result<Finding, Refusal>
-    requires { HasFewLines setup 0 }
-{
-    let client = link_of(alloc, &giving(row.request))?;
-    let origin = origin_of(alloc, row.origin.map(giving))?;
-    let ended = exchange(alloc, setup, client, origin)?;
-    judge(alloc, row, &ended.parts)
-}
-
-// Whether a row comes out as stated with these plugin lines, and its block is so.
-fn check_both(
-    alloc: Global,
-    first: PluginLine,
-    second: Option<PluginLine>,
-    row: &Row<'_>,
-) -> Result<Finding, Refusal> {
-    let setup = ruled(alloc, row, first, second)?;
-    let block = check_block_of(alloc, &setup, false, row)?;
-    if block != Finding::AsStated {
-        return Ok(block);
-    }
-    check_set(alloc, setup, row)
-}
-
-// The same with one plugin line.
-fn check_ruled(alloc: Global, plugin: PluginLine, row: &Row<'_>) -> Result<Finding, Refusal> {
-    check_both(alloc, plugin, None, row)
-}
-
-// `header.so SIDE set content-type VALUE`.
-fn sets_type(side: Side, value: HeaderValue) -> PluginLine {
-    PluginLine::Header {
-        side,
-        rule: Rule::Set {
-            name: HeaderName::from_static("content-type"),
-            value,
-        },
+// A response that is passed on through these lines.
+fn passed_on<'a>(
+    lines: &'a [u8],
+    sent: &'a [u8],
+    origin: &'a [u8],
+    head: &'a [u8],
+    mode: Mode,
+) -> Row<'a> {
+    Row {
+        lines,
+        file: FILE,
+        sent,
+        ..get(origin, head, mode, b"abc")
     }
 }
 
-// `header.so request add x-a 1`.
-fn adds_field() -> PluginLine {
-    PluginLine::Header {
-        side: Side::Request,
-        rule: Rule::Add {
-            name: HeaderName::from_static("x-a"),
-            value: HeaderValue::from_static("1"),
-        },
+// The answer of the proxy's own through these lines, where the origin gives nothing.
+fn bad_gateway<'a>(lines: &'a [u8], sent: &'a [u8], head: &'a [u8]) -> Row<'a> {
+    Row {
+        lines,
+        sent,
+        ..get(b"", head, Mode::Plain, b"502 Bad Gateway\n")
     }
 }
 
-#[test]
-fn a_rule_of_the_request_side_changes_the_request(rt: HostRuntime) -> Result<(), Fail> {
-    let row = Row {
-        sent: b"GET / HTTP/1.1\r\nhost: a\r\ncontent-type: x\r\nvia: 1.1 tsx\r\nconnection: close\r\n\r\n",
-        ..get(ABC, SIZED, Mode::Plain, b"abc")
-    };
-    let verdict = check_ruled(
-        rt.alloc(),
-        sets_type(Side::Request, HeaderValue::from_static("x")),
-        &row,
-    )?;
-    assert_eq!(rt; verdict, Finding::AsStated);
-    Ok(())
-}
+// A page of plain text, and one of HTML.
+const TEXT: &[u8] = b"HTTP/1.1 200 OK\r\nContent-Type: text/plain\r\nContent-Length: 3\r\n\r\nabc";
 
-#[test]
-fn a_rule_of_the_response_side_changes_each_head(rt: HostRuntime) -> Result<(), Fail> {
-    let rows = [
-        get(
+const PAGE: &[u8] = b"HTTP/1.1 200 OK\r\nContent-Type: text/html\r\nContent-Length: 3\r\n\r\nabc";
+
+// A request with a type, and its answer with one.
+const TYPED_REQUEST: &[u8] =
+    b"GET / HTTP/1.1\r\nhost: a\r\ncontent-type: x\r\nvia: 1.1 tsx\r\nconnection: close\r\n\r\n";
+
+const TYPED: &[u8] = b"HTTP/1.1 200 OK\r\ncontent-type: x\r\nvia: 1.1 tsx\r\ncontent-length: 3\r\n\
+connection: close\r\n\r\n";
+
+const TYPED_GATEWAY: &[u8] =
+    b"HTTP/1.1 502 Bad Gateway\r\ncontent-type: x\r\ncontent-length: 16\r\nconnection: close\r\n\r\n";
+
+// A request with one more field.
+const MORE_REQUEST: &[u8] =
+    b"GET / HTTP/1.1\r\nhost: a\r\nx-a: 1\r\nvia: 1.1 tsx\r\nconnection: close\r\n\r\n";
+
+// Rules of one side and of both, in their order and in any letter case. Which transforms act is decided by
+// the head as the origin gave it.
+fn ruled() -> [Row<'static>; 12] {
+    [
+        passed_on(
+            b"header.so request set content-type x\n",
+            TYPED_REQUEST,
             ABC,
-            b"HTTP/1.1 200 OK\r\ncontent-type: x\r\nvia: 1.1 tsx\r\ncontent-length: 3\r\n\
-connection: close\r\n\r\n",
+            SIZED,
             Mode::Plain,
-            b"abc",
         ),
-        get(
+        passed_on(
+            b"header.so response set Content-Type x\n",
+            GET_SENT,
+            ABC,
+            TYPED,
+            Mode::Plain,
+        ),
+        passed_on(
+            b"header.so response set content-TYPE x\n",
+            GET_SENT,
             b"HTTP/1.1 200 OK\r\nContent-Type: y\r\nServer: z\r\n\r\nabc",
             b"HTTP/1.1 200 OK\r\nserver: z\r\ncontent-type: x\r\nvia: 1.1 tsx\r\n\
 transfer-encoding: chunked\r\nconnection: close\r\n\r\n",
             Mode::Chunked,
-            b"abc",
         ),
-        get(
-            b"",
-            b"HTTP/1.1 502 Bad Gateway\r\ncontent-type: x\r\ncontent-length: 16\r\nconnection: close\r\n\r\n",
-            Mode::Plain,
-            b"502 Bad Gateway\n",
+        bad_gateway(
+            b"header.so response set content-type x\n",
+            GET_SENT,
+            TYPED_GATEWAY,
         ),
-    ];
-    for (place, row) in rows.iter().enumerate() {
-        let verdict = check_ruled(
-            rt.alloc(),
-            sets_type(Side::Response, HeaderValue::from_static("x")),
-            row,
-        )?;
-        assert_eq!(rt; verdict, Finding::AsStated, "row {place}");
-    }
-    Ok(())
-}
-
-// Two lines, each of which changes one side.
-#[test]
-fn header_rules_change_one_side(rt: HostRuntime) -> Result<(), Fail> {
-    let rows = [
-        get(
+        passed_on(
+            b"header.so request add x-a 1\nheader.so response set content-type x\n",
+            MORE_REQUEST,
             ABC,
-            b"HTTP/1.1 200 OK\r\ncontent-type: x\r\nvia: 1.1 tsx\r\ncontent-length: 3\r\n\
+            TYPED,
+            Mode::Plain,
+        ),
+        bad_gateway(
+            b"header.so request add x-a 1\nheader.so response set content-type x\n",
+            MORE_REQUEST,
+            TYPED_GATEWAY,
+        ),
+        passed_on(
+            b"header.so response set X-A 1\nheader.so response add x-a 2\n",
+            GET_SENT,
+            ABC,
+            b"HTTP/1.1 200 OK\r\nx-a: 1\r\nx-a: 2\r\nvia: 1.1 tsx\r\ncontent-length: 3\r\n\
 connection: close\r\n\r\n",
             Mode::Plain,
-            b"abc",
         ),
-        get(
-            b"",
-            b"HTTP/1.1 502 Bad Gateway\r\ncontent-type: x\r\ncontent-length: 16\r\nconnection: close\r\n\r\n",
+        passed_on(
+            b"header.so response add x-a 2\nheader.so response set X-A 1\n",
+            GET_SENT,
+            ABC,
+            b"HTTP/1.1 200 OK\r\nx-a: 1\r\nvia: 1.1 tsx\r\ncontent-length: 3\r\n\
+connection: close\r\n\r\n",
             Mode::Plain,
-            b"502 Bad Gateway\n",
         ),
-    ];
-    for (place, row) in rows.iter().enumerate() {
-        let row = Row {
-            sent: b"GET / HTTP/1.1\r\nhost: a\r\nx-a: 1\r\nvia: 1.1 tsx\r\nconnection: close\r\n\r\n",
-            ..*row
-        };
-        let set = sets_type(Side::Response, HeaderValue::from_static("x"));
-        let verdict = check_both(rt.alloc(), adds_field(), Some(set), &row)?;
-        assert_eq!(rt; verdict, Finding::AsStated, "row {place}");
-    }
-    Ok(())
-}
-
-#[test]
-fn a_rule_removes_a_field(rt: HostRuntime) -> Result<(), Fail> {
-    let remove = PluginLine::Header {
-        side: Side::Response,
-        rule: Rule::Remove {
-            name: HeaderName::from_static("server"),
-        },
-    };
-    let row = get(
-        b"HTTP/1.1 200 OK\r\nServer: z\r\nX: y\r\nSERVER: w\r\nContent-Length: 3\r\n\r\nabc",
-        b"HTTP/1.1 200 OK\r\nx: y\r\nvia: 1.1 tsx\r\ncontent-length: 3\r\nconnection: close\r\n\r\n",
-        Mode::Plain,
-        b"abc",
-    );
-    assert_eq!(rt; check_ruled(rt.alloc(), remove, &row)?, Finding::AsStated);
-    Ok(())
-}
-
-// Which lines act is decided by the head as the origin gave it.
-#[test]
-fn a_rule_does_not_change_which_lines_act(rt: HostRuntime) -> Result<(), Fail> {
-    let plain = Row {
-        lines: b"append_transform.so f\n",
-        file: FILE,
-        ..get(
-            b"HTTP/1.1 200 OK\r\nContent-Type: text/plain\r\nContent-Length: 3\r\n\r\nabc",
+        passed_on(
+            b"header.so request add x-a 1\nheader.so response add x-b 2\nheader.so request remove X-A\n\
+header.so response remove X-B\n",
+            GET_SENT,
+            ABC,
+            SIZED,
+            Mode::Plain,
+        ),
+        passed_on(
+            b"header.so response remove Server\n",
+            GET_SENT,
+            b"HTTP/1.1 200 OK\r\nServer: z\r\nX: y\r\nSERVER: w\r\nContent-Length: 3\r\n\r\nabc",
+            b"HTTP/1.1 200 OK\r\nx: y\r\nvia: 1.1 tsx\r\ncontent-length: 3\r\nconnection: close\r\n\r\n",
+            Mode::Plain,
+        ),
+        passed_on(
+            b"append_transform.so f\nheader.so response set content-type text/html\n",
+            GET_SENT,
+            TEXT,
             b"HTTP/1.1 200 OK\r\ncontent-type: text/html\r\nvia: 1.1 tsx\r\ncontent-length: 3\r\n\
 connection: close\r\n\r\n",
             Mode::Plain,
-            b"abc",
-        )
-    };
-    let verdict = check_ruled(
-        rt.alloc(),
-        sets_type(Side::Response, HeaderValue::from_static("text/html")),
-        &plain,
-    )?;
-    assert_eq!(rt; verdict, Finding::AsStated);
-    let html = Row {
-        lines: b"append_transform.so f\n",
-        file: FILE,
-        ..get(
-            b"HTTP/1.1 200 OK\r\nContent-Type: text/html\r\nContent-Length: 3\r\n\r\nabc",
-            b"HTTP/1.1 200 OK\r\ncontent-type: text/plain\r\nvia: 1.1 tsx\r\n\
+        ),
+        Row {
+            body: b"abc<hr>",
+            ..passed_on(
+                b"append_transform.so f\nheader.so response set content-type text/plain\n",
+                GET_SENT,
+                PAGE,
+                b"HTTP/1.1 200 OK\r\ncontent-type: text/plain\r\nvia: 1.1 tsx\r\n\
 transfer-encoding: chunked\r\nconnection: close\r\n\r\n",
-            Mode::Chunked,
-            b"abc<hr>",
-        )
-    };
-    let verdict = check_ruled(
-        rt.alloc(),
-        sets_type(Side::Response, HeaderValue::from_static("text/plain")),
-        &html,
-    )?;
-    assert_eq!(rt; verdict, Finding::AsStated);
+                Mode::Chunked,
+            )
+        },
+    ]
+}
+
+#[test]
+fn rules_change_the_heads_of_their_side(rt: HostRuntime) -> Result<(), Fail> {
+    for (place, row) in ruled().iter().enumerate() {
+        assert_eq!(rt; check(rt.alloc(), row)?, Finding::AsStated, "row {place}");
+    }
     Ok(())
 }
 
-// A line that denies this site.
-fn denies(alloc: Global, site: &[u8]) -> Result<PluginLine, Refusal> {
-    let mut sites = Vec::new(alloc);
-    sites.push(Octets::copy_of(alloc, site)?)?;
-    Ok(PluginLine::Deny {
-        sites: Sites::of_vec(sites),
-    })
+// The lines, the client's Host, and whether it is denied.
+const HOSTS: [(&[u8], &[u8], bool); 9] = [
+    (b"denylist.so A.example\n", b"a.EXAMPLE:80", true),
+    (b"denylist.so A\n", b"a", true),
+    (b"denylist.so b\n", b"a", false),
+    (b"denylist.so b A\n", b"a:8080", true),
+    (b"denylist.so b\ndenylist.so c a\n", b"A", true),
+    (b"denylist.so b\ndenylist.so c\n", b"a", false),
+    (b"denylist.so [::F]\n", b"[::f]:80", true),
+    (b"denylist.so ::f\n", b"[::f]:80", false),
+    (b"denylist.so a.example\n", b"www.a.example", false),
+];
+
+// A request for a host, and what an origin gets of it.
+fn request_for(alloc: Global, host: &[u8], ends: &[u8]) -> Result<Vec<u8>, Refusal> {
+    let mut text = Vec::from_slice(alloc, b"GET / HTTP/1.1\r\nhost: ")?;
+    text.extend_from_slice(host)?;
+    text.extend_from_slice(ends)?;
+    Ok(text)
 }
 
-// Whether a row comes out as stated where this site is denied.
-fn check_denied(alloc: Global, site: &[u8], row: &Row<'_>) -> Result<Finding, Refusal> {
-    let deny = denies(alloc, site)?;
-    check_ruled(alloc, deny, row)
+// Whether the host is answered as stated through these lines.
+fn check_host(alloc: Global, lines: &[u8], host: &[u8], denied: bool) -> Result<Finding, Refusal> {
+    let request = request_for(alloc, host, b"\r\n\r\n")?;
+    let sent = request_for(
+        alloc,
+        host,
+        b"\r\nvia: 1.1 tsx\r\nconnection: close\r\n\r\n",
+    )?;
+    let row = if denied {
+        Row {
+            sent: b"",
+            ..get(ABC, FORBIDDEN, Mode::Plain, b"403 Forbidden\n")
+        }
+    } else {
+        Row {
+            sent: sent.as_slice(),
+            ..get(ABC, SIZED, Mode::Plain, b"abc")
+        }
+    };
+    check(
+        alloc,
+        &Row {
+            lines,
+            request: request.as_slice(),
+            ..row
+        },
+    )
 }
 
 #[test]
 fn a_denied_host_gets_nothing_of_an_origin(rt: HostRuntime) -> Result<(), Fail> {
-    let denied = Row {
-        sent: b"",
-        ..get(ABC, FORBIDDEN, Mode::Plain, b"403 Forbidden\n")
-    };
-    let other = Row {
-        request: b"GET / HTTP/1.1\r\nHost: a.EXAMPLE:80\r\n\r\n",
-        ..denied
-    };
-    let rows: [(&[u8], Row<'_>); 3] = [
-        (b"A", denied),
-        (b"A.example", other),
-        (b"b", get(ABC, SIZED, Mode::Plain, b"abc")),
-    ];
-    for (place, (site, row)) in rows.iter().enumerate() {
-        let verdict = check_denied(rt.alloc(), site, row)?;
+    for (place, (lines, host, denied)) in HOSTS.iter().enumerate() {
+        let verdict = check_host(rt.alloc(), lines, host, *denied)?;
         assert_eq!(rt; verdict, Finding::AsStated, "row {place}");
+    }
+    Ok(())
+}
+
+// A deny list between rules of each side.
+const FOUR: &[u8] = b"header.so response add x-a 1\ndenylist.so b\nheader.so request add x-b 2\n\
+header.so response add x-c 3\n";
+
+// The client's request, what the origin gives, and how often each plugin of these lines is asked.
+const ASKED: [(&[u8], &[u8], [u64; 4]); 4] = [
+    (GET, ABC, [1, 1, 1, 1]),
+    (GET, b"", [1, 1, 1, 1]),
+    (b"GET / HTTP/1.1\r\nHost: b\r\n\r\n", ABC, [1, 1, 0, 1]),
+    (b"GET\r\n\r\n", ABC, [1, 0, 0, 1]),
+];
+
+// How often each plugin of the lines was asked.
+fn asked_in(alloc: Global, request: &[u8], gives: &[u8]) -> Result<Vec<u64>, Refusal> {
+    let EndedTxn { asked, .. } = run(alloc, FOUR, b"", &giving(request), Some(giving(gives)))?;
+    Ok(asked)
+}
+
+#[test]
+fn each_plugin_is_asked_once_at_its_hook(rt: HostRuntime) -> Result<(), Fail> {
+    for (place, (request, gives, stated)) in ASKED.iter().enumerate() {
+        let asked = asked_in(rt.alloc(), request, gives)?;
+        assert_eq!(rt; asked.as_slice(), stated.as_slice(), "row {place}");
     }
     Ok(())
 }

@@ -1,29 +1,34 @@
--- The one group fits its tag and tells its number, and has ended then.
-use Rattle.std.specs.Prelude.{◌∷◌, [], ◌++◌}
-use Rattle.std.proofs.Common.{ap, ◌∙◌}
-use Rattle.ts_txn_tests.proofs.ByFinish.{can_ask, group_fits, group_tells, last_ended}
+-- The groups fit the tags of the row and tell their numbers, and the transaction has ended then.
+use Rattle.std.proofs.Common.{◌≡◌, ◌∷◌, ◌∙◌, sym, subst}
+use Rattle.ts_group.specs.declared.either.Either.TheVariants.{One}
+use Rattle.ts_journal.specs.Log.{Log}
+use Rattle.ts_txn_tests.specs.Begun.{HasEndedOr}
+use Rattle.ts_txn_tests.proofs.ByFinish.{all_tell, first_ended, row_ends}
+use Rattle.ts_txn_tests.proofs.Rows.{can_ask}
 use Rattle.ts_txn_tests.proofs.exchange.drive.Goals as goal
 
 pub finish-requires-clause-fits : goal.finish-requires-clause-fits
 finish-requires-clause-fits g c = (
-  c.args.tag ∷ [],
-  can_ask g.C.Link g.O.Link g.O.Upstream g.P.Transform (c.args.tag ∷ []),
-  group_fits g.C.Link g.O.Link g.O.Upstream g.P.Transform c.args.tag c.args.group c.push.new.self.items
-      (c.in_ok-push.ensures.items ∙ ap (λ xs. xs ++ (c.args.group ∷ [])) c.new-groups.ensures.items)
-      c.requires.begun.fits,
+  c.requires.begun.tags,
+  can_ask g.C.Link g.O.Link g.O.Upstream g.P.Transform c.requires.begun.tag c.requires.begun.tags
+      c.requires.begun.tags_are,
+  c.requires.begun.fit,
 )
 
 pub finish-requires-clause-tells : goal.finish-requires-clause-tells
 finish-requires-clause-tells g c =
-    group_tells g.C.Link g.O.Link g.O.Upstream g.P.Transform c.args.tag c.args.group c.push.new.self.items
-    (c.in_ok-push.ensures.items ∙ ap (λ xs. xs ++ (c.args.group ∷ [])) c.new-groups.ensures.items)
-    c.requires.tells
+    all_tell g.C.Link g.O.Link g.O.Upstream g.P.Transform c.requires.tells c.args.row.groups.items
 
 pub returns : goal.returns
-returns g c = record {
-  ended = last_ended g.C.Link g.O.Link g.O.Upstream g.P.Transform c.args.tag c.args.group c.in-Some.group
-      c.push.new.self.items c.finish.new.groups.items
-      c.pop.new.self.items c.finish.result c.in_ok-finish.was
-      (c.in_ok-push.ensures.items ∙ ap (λ xs. xs ++ (c.args.group ∷ [])) c.new-groups.ensures.items)
-      c.requires.begun c.finish.ensures.finishes c.in-Some.ensures.items;
-}
+returns g c =
+    let begun = c.requires.begun in
+    let first = row_ends g.C.Link g.O.Link g.O.Upstream g.P.Transform c.args.row.groups.items
+    c.finish.new.groups.items c.finish.result begun c.in_ok-finish.was c.finish.ensures.finishes in
+    let front : c.finish.new.groups.items ≡ c.in-Some.group ∷ c.pop_front.new.self.items =
+    sym c.from_vec-left.ensures.items ∙ c.in-Some.ensures.items in
+    let world : c.in-Some.group.world ≡ One c.in-One.txn = cc in
+    let ended = first_ended g.C.Link g.O.Link g.O.Upstream g.P.Transform begun.tag c.finish.new.groups.items
+    c.pop_front.new.self.items c.in-Some.group c.in-One.txn begun.started first front world in
+    record {
+      ended = subst (λ (l : Log). HasEndedOr c.in-One.txn l.state) (sym c.into_parts-world.ensures.1) ended;
+    }
