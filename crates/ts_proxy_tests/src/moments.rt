@@ -1,4 +1,4 @@
-//! When the events of a journal were handled.
+//! When the events of a journal were handled, and for when they were set.
 
 use ts_journal::{Entry, Journal};
 
@@ -25,4 +25,23 @@ pub fn late_events(journals: &[Journal]) -> u64 {
         late = late.wrapping_add(late_in(journal.entries()));
     }
     late
+}
+
+/// How many events were set for later than the moment of the one that was handled before. A recorded
+/// transaction sets such an event where its plugin was missed, and where a line delays it.
+pub fn waits_of(entries: &[Entry]) -> u64 {
+    let mut now: u64 = 0;
+    let mut waits: u64 = 0;
+    for entry in entries {
+        match entry {
+            Entry::Handled { moment, .. } => now = *moment,
+            Entry::Set { due, .. } => {
+                if *due > now {
+                    waits = waits.wrapping_add(1);
+                }
+            }
+            _ => {}
+        }
+    }
+    waits
 }

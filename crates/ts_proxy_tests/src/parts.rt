@@ -1,15 +1,25 @@
-//! The numbered lines and parts that recordings and reports are made of.
+//! The numbered lines and parts that recordings, reports, heads and configurations are made of.
 
 use itoa::Buffer;
 use ts_link::NoMemory;
 
-/// Adds a line of a word and a number.
-pub fn add_number(text: &mut Vec<u8>, word: &[u8], number: usize) -> Result<(), NoMemory> {
+/// Adds a word, a number and what ends their line.
+pub fn add_ended(
+    text: &mut Vec<u8>,
+    word: &[u8],
+    number: usize,
+    end: &[u8],
+) -> Result<(), NoMemory> {
     text.extend_from_slice(word)?;
     let mut digits = Buffer::new();
     text.extend_from_slice(digits.format(number).as_bytes())?;
-    text.push(b'\n')?;
+    text.extend_from_slice(end)?;
     Ok(())
+}
+
+/// Adds a line of a word and a number.
+pub fn add_number(text: &mut Vec<u8>, word: &[u8], number: usize) -> Result<(), NoMemory> {
+    add_ended(text, word, number, b"\n")
 }
 
 /// Adds a part, behind a line of a word and its length.

@@ -10,10 +10,12 @@ use std::sync::Wait;
 use std::thread::Threads;
 use ts_link::NoMemory;
 
-/// A transaction through the lines of a configuration, and what is stated of it.
+/// A transaction through the lines of a configuration, so many of which are of hook plugins, and what is
+/// stated of it.
 #[derive(Clone, Copy)]
 pub struct Row<'a> {
     pub config: &'a [u8],
+    pub plugins: usize,
     pub exchange: Exchange<'a>,
     pub stated: Stated<'a>,
 }
@@ -22,6 +24,7 @@ pub struct Row<'a> {
 pub fn get<'a>(config: &'a [u8], origin: &'a [u8], head: &'a [u8], came: StatedEnd<'a>) -> Row<'a> {
     Row {
         config,
+        plugins: 0,
         exchange: at_once(GET, origin),
         stated: passed(head, came),
     }
@@ -31,6 +34,7 @@ pub fn get<'a>(config: &'a [u8], origin: &'a [u8], head: &'a [u8], came: StatedE
 pub fn chunked<'a>(config: &'a [u8], origin: &'a [u8], body: &'a [u8]) -> Row<'a> {
     Row {
         config,
+        plugins: 0,
         exchange: at_once(GET, origin),
         stated: in_chunks(body),
     }
@@ -40,6 +44,7 @@ pub fn chunked<'a>(config: &'a [u8], origin: &'a [u8], body: &'a [u8]) -> Row<'a
 pub fn head<'a>(config: &'a [u8], origin: &'a [u8], head: &'a [u8]) -> Row<'a> {
     Row {
         config,
+        plugins: 0,
         exchange: at_once(HEAD, origin),
         stated: Stated {
             request: HEAD_SENT,
@@ -57,19 +62,22 @@ pub fn dripping(row: Row<'_>) -> Row<'_> {
     }
 }
 
-/// Whether transactions come out as stated where these words replay them under a configuration.
+/// Whether transactions come out as stated where these words replay them under a configuration, so many lines
+/// of which are of hook plugins.
 pub fn check_with<R: Threads + Wait + Sync>(
     rt: &R,
     alloc: Global,
     words: &[&str],
     config: &[u8],
+    plugins: usize,
     exchanges: &[Exchange<'_>],
     stated: &[Stated<'_>],
 ) -> Result<Comparison, NoMemory> {
     let recording = recording_of(alloc, exchanges)?;
     let report = report_of(alloc, stated)?;
     let left = replayed(rt, alloc, words, config, recording.as_slice())?;
-    Ok(compare(&left, &done(report.as_slice(), stated.len())))
+    let journals = stated.len().saturating_add(plugins);
+    Ok(compare(&left, &done(report.as_slice(), journals)))
 }
 
 /// Whether a row comes out as stated on 1, 2 and 8 threads.
@@ -79,7 +87,15 @@ pub fn check<R: Threads + Wait + Sync>(
     row: &Row<'_>,
 ) -> Result<Comparison, NoMemory> {
     for words in [REPLAY, ON_2, ON_8] {
-        let found = check_with(rt, alloc, words, row.config, &[row.exchange], &[row.stated])?;
+        let found = check_with(
+            rt,
+            alloc,
+            words,
+            row.config,
+            row.plugins,
+            &[row.exchange],
+            &[row.stated],
+        )?;
         if found != Comparison::AsStated {
             return Ok(found);
         }

@@ -60,6 +60,13 @@ connection: close\r\n\r\n",
     body: b"400 Bad Request\n",
 };
 
+/// The answer to a request whose host is denied.
+pub const FORBIDDEN: StatedAnswer<'static> = StatedAnswer {
+    head: b"HTTP/1.1 403 Forbidden\r\ncontent-type: text/plain\r\ncontent-length: 14\r\n\
+connection: close\r\n\r\n",
+    body: b"403 Forbidden\n",
+};
+
 /// The answer to a request that is not served.
 pub const NOT_IMPLEMENTED: StatedAnswer<'static> = StatedAnswer {
     head: b"HTTP/1.1 501 Not Implemented\r\ncontent-type: text/plain\r\ncontent-length: 20\r\n\

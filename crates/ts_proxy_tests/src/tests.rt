@@ -9,10 +9,12 @@ use std::test::Fail;
 use std::thread::Threads;
 
 mod answers;
+mod asking;
 mod bodies;
 mod framings;
 mod generating;
 mod orders;
+mod plugins;
 mod refusals;
 mod sizes;
 mod threads;

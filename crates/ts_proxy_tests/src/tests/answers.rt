@@ -13,6 +13,7 @@ use std::test::Fail;
 fn refused<'a>(client: &'a [u8], answer: &StatedAnswer<'a>) -> Row<'a> {
     Row {
         config: b"",
+        plugins: 0,
         exchange: at_once(client, ABC),
         stated: unasked(answer),
     }
@@ -61,6 +62,7 @@ fn requests_that_are_not_passed_on(rt: HostRuntime) -> Result<(), Fail> {
 fn a_client_that_gives_nothing(rt: HostRuntime) -> Result<(), Fail> {
     let nothing = Row {
         config: b"",
+        plugins: 0,
         exchange: at_once(b"", ABC),
         stated: NOTHING,
     };

@@ -17,6 +17,7 @@ const IN_CHUNKS: &[u8] =
 fn usual() -> Row<'static> {
     Row {
         config: APPEND,
+        plugins: 0,
         exchange: at_once(USUAL, PAGE),
         stated: paged(b"<p>hello</p>\n<hr>"),
     }

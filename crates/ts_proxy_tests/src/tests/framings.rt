@@ -14,6 +14,7 @@ const ABC_HEAD: &[u8] = b"HTTP/1.1 200 OK\r\nContent-Length: 3\r\n\r\n";
 fn older<'a>(config: &'a [u8], got: &'a [u8], body: &'a [u8]) -> Row<'a> {
     Row {
         config,
+        plugins: 0,
         exchange: at_once(b"GET / HTTP/1.0\r\nHost: a\r\n\r\n", ABC),
         stated: Stated {
             request: b"GET / HTTP/1.1\r\nhost: a\r\nvia: 1.0 tsx\r\nconnection: close\r\n\r\n",

@@ -61,6 +61,7 @@ fn most_transactions(rt: HostRuntime) -> Result<(), Fail> {
             alloc,
             words,
             LESS,
+            0,
             exchanges.as_slice(),
             stated.as_slice(),
         )?;
@@ -97,7 +98,15 @@ fn a_large_body(rt: HostRuntime) -> Result<(), Fail> {
     for piece in [MOST_PIECE, 1_000] {
         let exchange = in_pieces(at_once(GET, response.as_slice()), piece);
         let stated = in_chunks(body.as_slice());
-        let found = check_with(&rt, alloc, ON_4, config.as_slice(), &[exchange], &[stated])?;
+        let found = check_with(
+            &rt,
+            alloc,
+            ON_4,
+            config.as_slice(),
+            0,
+            &[exchange],
+            &[stated],
+        )?;
         assert_eq!(rt; found, Comparison::AsStated, "pieces of {piece}");
     }
     Ok(())

@@ -1,5 +1,5 @@
-//! What many threads make of a recording: the same report, each journal in its place, two handlers beside
-//! each other.
+//! What many threads make of a recording: the same report, with and without hook plugins, each journal in its
+//! place, two handlers beside each other.
 
 use crate::command::{
     ON_1, ON_2, ON_4, ON_8, ON_64, REPLAY, left_by, replayed, shelf_of, wide_sink,
@@ -18,6 +18,10 @@ use ts_link::MeetGate;
 
 // A byte before a body, and then a pause at each event.
 const DELAYED: &[u8] = b"prepend.so <\ndelay.so 20";
+
+// The same, with hook plugins that are asked at each hook and change nothing.
+const ASKING: &[u8] = b"denylist.so b c\nprepend.so <\nheader.so request remove x\ndelay.so 20\n\
+header.so response remove x\ndenylist.so d";
 
 // Transactions of every kind.
 fn mixed() -> [Exchange<'static>; 8] {
@@ -51,8 +55,10 @@ fn of_mixed() -> [Stated<'static>; 8] {
 #[test]
 fn threads_change_nothing(rt: HostRuntime) -> Result<(), Fail> {
     for words in [REPLAY, ON_1, ON_2, ON_4, ON_8, ON_64] {
-        let found = check_with(&rt, rt.alloc(), words, DELAYED, &mixed(), &of_mixed())?;
+        let found = check_with(&rt, rt.alloc(), words, DELAYED, 0, &mixed(), &of_mixed())?;
         assert_eq!(rt; found, Comparison::AsStated, "at {words:?}");
+        let found = check_with(&rt, rt.alloc(), words, ASKING, 4, &mixed(), &of_mixed())?;
+        assert_eq!(rt; found, Comparison::AsStated, "asking at {words:?}");
     }
     Ok(())
 }
@@ -61,7 +67,7 @@ fn threads_change_nothing(rt: HostRuntime) -> Result<(), Fail> {
 #[test]
 fn fifty_runs(rt: HostRuntime) -> Result<(), Fail> {
     for run in 0..50 {
-        let found = check_with(&rt, rt.alloc(), ON_4, DELAYED, &mixed(), &of_mixed())?;
+        let found = check_with(&rt, rt.alloc(), ON_4, ASKING, 4, &mixed(), &of_mixed())?;
         assert_eq!(rt; found, Comparison::AsStated, "run {run}");
     }
     Ok(())

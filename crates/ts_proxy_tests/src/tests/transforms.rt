@@ -47,10 +47,11 @@ fn leaves<R: Abort + AllocGlobal + Threads + Wait + Sync>(
     Ok(())
 }
 
-// Of each row the configuration makes of the body what stands behind it.
+// Of each row the configuration makes of the body what stands behind it. The lines of hook plugins make
+// nothing of it.
 #[test]
 fn bodies(rt: HostRuntime) -> Result<(), Fail> {
-    let rows: [(&[u8], &[u8], &[u8]); 8] = [
+    let rows: [(&[u8], &[u8], &[u8]); 9] = [
         (b"null_transform.so\nappend_transform.so 1", b"", b"1"),
         (
             b"append_transform.so 1\nappend_transform.so 2\n",
@@ -83,6 +84,11 @@ fn bodies(rt: HostRuntime) -> Result<(), Fail> {
             b"a bx",
         ),
         (b"map.so 0x0a 0x20", b"q\nx", b"q x"),
+        (
+            b"denylist.so a\nprepend.so <\nheader.so response set x-a 1\nmap.so a A",
+            b"a",
+            b"<A",
+        ),
     ];
     for (config, body, out) in rows {
         leaves(&rt, shelf_of(rt.alloc(), config, body)?, &done(out, 1))?;
@@ -93,7 +99,7 @@ fn bodies(rt: HostRuntime) -> Result<(), Fail> {
 // Of each row the configuration has a line that is refused, before a body is looked for.
 #[test]
 fn faulty_lines(rt: HostRuntime) -> Result<(), Fail> {
-    let rows: [(&[u8], &[u8]); 5] = [
+    let rows: [(&[u8], &[u8]); 10] = [
         (
             b"null_transform.so\nfoo.so\n",
             b"tsx: configuration line 2: plugin\n",
@@ -105,6 +111,23 @@ fn faulty_lines(rt: HostRuntime) -> Result<(), Fail> {
         ),
         (b"prepend.so \"a", b"tsx: configuration line 1: quote\n"),
         (b"# \x7f", b"tsx: configuration line 1: text\n"),
+        (b"denylist.so", b"tsx: configuration line 1: arguments\n"),
+        (
+            b"denylist.so a\ndenylist.so b \"\"",
+            b"tsx: configuration line 2: arguments\n",
+        ),
+        (
+            b"header.so request set Host a",
+            b"tsx: configuration line 1: arguments\n",
+        ),
+        (
+            b"header.so response remove VIA",
+            b"tsx: configuration line 1: arguments\n",
+        ),
+        (
+            b"header.so both add x-a 1",
+            b"tsx: configuration line 1: arguments\n",
+        ),
     ];
     for (config, line) in rows {
         let mut shelf = MemShelf::make(rt.alloc());

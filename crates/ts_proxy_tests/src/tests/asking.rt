@@ -1,0 +1,227 @@
+//! How hook plugins are asked: in the order of their lines, as many as there may be, by as many transactions
+//! as there may be; and the journals of their groups.
+
+use super::check_all;
+use crate::command::{ON_1, ON_2, ON_8, REPLAY, replayed};
+use crate::comparison::{Comparison, compare, stopped};
+use crate::moments::waits_of;
+use crate::parts::{add_ended, add_number};
+use crate::recording::{at_once, recording_of};
+use crate::report::StatedEnd;
+use crate::row::{Row, check_with, get};
+use crate::stated::{ABC, GET, HOSTLESS};
+use std::alloc::Global;
+use std::test::Fail;
+use ts_journal::Journal;
+use ts_link::NoMemory;
+
+// The most lines of hook plugins.
+const MOST_PLUGINS: usize = 64;
+
+// The most transactions of a recording.
+const MOST_TXNS: usize = 4_000;
+
+// So many lines that add a field to each response, with the places of the lines as values, and before the
+// first of them so many that put a byte before a body.
+fn adding(alloc: Global, plugins: usize, transforms: usize) -> Result<Vec<u8>, NoMemory> {
+    let mut config = Vec::new(alloc);
+    for place in 0..plugins {
+        if place < transforms {
+            config.extend_from_slice(b"prepend.so <\n")?;
+        }
+        add_number(&mut config, b"header.so response add x-a ", place)?;
+    }
+    Ok(config)
+}
+
+// A head with the fields of as many such lines as there may be, and these lines behind them.
+fn added_head(alloc: Global, behind: &[u8]) -> Result<Vec<u8>, NoMemory> {
+    let mut head = Vec::from_slice(alloc, b"HTTP/1.1 200 OK\r\n")?;
+    for place in 0..MOST_PLUGINS {
+        add_ended(&mut head, b"x-a: ", place, b"\r\n")?;
+    }
+    head.extend_from_slice(behind)?;
+    Ok(head)
+}
+
+// A row of the request GET under as many lines of hook plugins as there may be.
+fn under_most<'a>(config: &'a [u8], head: &'a [u8], body: &'a [u8]) -> Row<'a> {
+    Row {
+        plugins: MOST_PLUGINS,
+        ..get(config, ABC, head, StatedEnd::Whole(body))
+    }
+}
+
+// As many lines of hook plugins as there may be, alone and with as many transform lines as there may be.
+#[test]
+fn most_lines(rt: HostRuntime) -> Result<(), Fail> {
+    let alloc = rt.alloc();
+    let alone = adding(alloc, MOST_PLUGINS, 0)?;
+    let mixed = adding(alloc, MOST_PLUGINS, 16)?;
+    let sized = added_head(
+        alloc,
+        b"via: 1.1 tsx\r\ncontent-length: 3\r\nconnection: close\r\n\r\n",
+    )?;
+    let chunked = added_head(
+        alloc,
+        b"via: 1.1 tsx\r\ntransfer-encoding: chunked\r\nconnection: close\r\n\r\n",
+    )?;
+    let rows = [
+        under_most(alone.as_slice(), sized.as_slice(), b"abc"),
+        under_most(mixed.as_slice(), chunked.as_slice(), b"<<<<<<<<<<<<<<<<abc"),
+    ];
+    check_all(&rt, &rows)
+}
+
+// The 65th line of a hook plugin is one too many, whatever transform lines stand between them.
+#[test]
+fn a_line_too_many(rt: HostRuntime) -> Result<(), Fail> {
+    let alloc = rt.alloc();
+    let recording = recording_of(alloc, &[])?;
+    let rows: [(usize, &[u8]); 2] = [
+        (0, b"tsx: configuration line 65: too-many\n"),
+        (16, b"tsx: configuration line 81: too-many\n"),
+    ];
+    for (transforms, line) in rows {
+        let config = adding(alloc, MOST_PLUGINS + 1, transforms)?;
+        let left = replayed(&rt, alloc, REPLAY, config.as_slice(), recording.as_slice())?;
+        let found = compare(&left, &stopped(3, line));
+        assert_eq!(rt; found, Comparison::AsStated, "{transforms} transforms");
+    }
+    Ok(())
+}
+
+// Where there is no transaction, the groups of the plugins alone are left.
+#[test]
+fn plugins_without_transactions(rt: HostRuntime) -> Result<(), Fail> {
+    for words in [REPLAY, ON_2, ON_8] {
+        let found = check_with(
+            &rt,
+            rt.alloc(),
+            words,
+            b"denylist.so a\nheader.so request remove x",
+            2,
+            &[],
+            &[],
+        )?;
+        assert_eq!(rt; found, Comparison::AsStated, "at {words:?}");
+    }
+    Ok(())
+}
+
+// The journals of the plugins stand behind those of the transactions, in the order of the lines. Each plugin
+// handled an event for each question: the rule of responses was asked of the denied request and of the one
+// that cannot be read too, the deny list of those that can be read, and the rule of requests of the one that
+// was passed on. For a client that gives nothing nobody is asked.
+#[test]
+fn journals_of_plugins(rt: HostRuntime) -> Result<(), Fail> {
+    let config = b"header.so response remove x\ndenylist.so b\nheader.so request remove x";
+    let exchanges = [
+        at_once(GET, ABC),
+        at_once(b"GET / HTTP/1.1\r\nHost: b\r\n\r\n", ABC),
+        at_once(HOSTLESS, ABC),
+        at_once(b"", ABC),
+    ];
+    let recording = recording_of(rt.alloc(), &exchanges)?;
+    for words in [ON_1, ON_2, ON_8] {
+        let left = replayed(&rt, rt.alloc(), words, config, recording.as_slice())?;
+        assert_eq!(rt; left.status, 0);
+        let [_, _, _, _, responses, hosts, requests] = left.journals.as_slice() else {
+            return Err("there are seven journals")?;
+        };
+        assert_eq!(rt; responses.counts().handled, 3, "at {words:?}");
+        assert_eq!(rt; hosts.counts().handled, 2, "at {words:?}");
+        assert_eq!(rt; requests.counts().handled, 1, "at {words:?}");
+    }
+    Ok(())
+}
+
+// What came of transactions that all ask one plugin.
+#[derive(Clone, Copy, Debug, PartialEq, Eq)]
+struct Tally {
+    txns: usize,
+    /// How many events the transactions handled.
+    handled: u64,
+    /// How often one of them waited.
+    waits: u64,
+    /// How many questions the plugin answered.
+    questions: u64,
+}
+
+// What came of the transactions with these journals, behind which that of their plugin stands.
+fn tally_of(journals: &[Journal]) -> Option<Tally> {
+    let [txns @ .., plugin] = journals else {
+        return None;
+    };
+    let mut tally = Tally {
+        txns: txns.len(),
+        handled: 0,
+        waits: 0,
+        questions: plugin.counts().handled,
+    };
+    for txn in txns {
+        tally.handled = tally.handled.wrapping_add(txn.counts().handled);
+        tally.waits = tally.waits.wrapping_add(waits_of(txn.entries()));
+    }
+    Some(tally)
+}
+
+// A deny list of 64 sites that begin with this text, and end with a letter more.
+fn near_sites(alloc: Global, front: &[u8]) -> Result<Vec<u8>, NoMemory> {
+    let mut config = Vec::from_slice(alloc, b"denylist.so")?;
+    for _ in 0..64 {
+        config.push(b' ')?;
+        config.extend_from_slice(front)?;
+        config.push(b'b')?;
+    }
+    Ok(config)
+}
+
+// A request for a page of a host that begins with the same text, and ends with another letter.
+fn near_request(alloc: Global, front: &[u8]) -> Result<Vec<u8>, NoMemory> {
+    let mut request = Vec::from_slice(alloc, b"GET / HTTP/1.1\r\nHost: ")?;
+    request.extend_from_slice(front)?;
+    request.extend_from_slice(b"a\r\n\r\n")?;
+    Ok(request)
+}
+
+// How often as many transactions as there may be are run, until one of them misses its plugin.
+const MOST_RUNS: usize = 20;
+
+// Each of as many transactions as there may be asks one deny list, whose sites are nearly the host.
+// On 8 threads some find its group held: the transaction waits then, and asks again by an event more. The
+// plugin answers each transaction once, and the report is the same.
+#[test]
+fn a_plugin_that_is_missed(rt: HostRuntime) -> Result<(), Fail> {
+    let alloc = rt.alloc();
+    let front = vec![in alloc; b'a'; 19]?;
+    let config = near_sites(alloc, front.as_slice())?;
+    let request = near_request(alloc, front.as_slice())?;
+    let exchanges = vec![in alloc; at_once(request.as_slice(), ABC); MOST_TXNS]?;
+    let recording = recording_of(alloc, exchanges.as_slice())?;
+    let alone = replayed(&rt, alloc, ON_1, config.as_slice(), recording.as_slice())?;
+    let Some(calm) = tally_of(alone.journals.as_slice()) else {
+        return Err("the plugin has a journal")?;
+    };
+    assert_eq!(rt; calm.waits, 0);
+    let two = replayed(&rt, alloc, ON_2, config.as_slice(), recording.as_slice())?;
+    assert!(rt; two.out.written() == alone.out.written());
+    for _ in 0..MOST_RUNS {
+        let left = replayed(&rt, alloc, ON_8, config.as_slice(), recording.as_slice())?;
+        assert!(rt; left.out.written() == alone.out.written());
+        let Some(busy) = tally_of(left.journals.as_slice()) else {
+            return Err("the plugin has a journal")?;
+        };
+        let waited = Tally {
+            txns: MOST_TXNS,
+            handled: calm.handled.wrapping_add(busy.waits),
+            waits: busy.waits,
+            questions: MOST_TXNS as u64,
+        };
+        assert_eq!(rt; busy, waited);
+        if busy.waits > 0 {
+            return Ok(());
+        }
+    }
+    Err("the plugin was missed")?
+}
