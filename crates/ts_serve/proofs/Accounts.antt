@@ -1,0 +1,209 @@
+-- What the steps of the first thread leave of the door and of the net.
+use Rattle.std.specs.Prelude.{⊤}
+use Rattle.std.proofs.Common.{◌≡◌, ℕ, ◌+◌, ◌<◌, ◌≤◌, Bool, true, false, List, refl, sym, ap, ◌∙◌, subst, Option, arith}
+use Rattle.ts_link.specs.Counts.{Counted, Rose}
+use Rattle.ts_link.specs.declared.link.Link as link
+use Rattle.ts_upstream.specs.declared.upstream.Upstream as upstream
+use Rattle.ts_txn.specs.Net.{NetSeen}
+use Rattle.ts_txn.specs.declared.net.NetCounts.{NetCounts}
+use Rattle.ts_txn.specs.declared.retired.Retired.{Retired}
+use Rattle.ts_serve.specs.declared.booking.Booking.{Booking}
+use Rattle.ts_serve.specs.declared.door.Door.{Door}
+use Rattle.ts_serve.specs.declared.door.Listening.{Listening}
+use Rattle.ts_serve.specs.declared.door.Listening.TheVariants as listening
+use Rattle.ts_serve.specs.declared.receiving.Arrival.TheVariants as arrival
+use Rattle.ts_serve.specs.Arrivals.{Receives}
+use Rattle.ts_serve.specs.Books.{IsSameRow}
+use Rattle.ts_journal.specs.declared.slotted.Slotted.{Ghosts}
+use Rattle.ts_slot.specs.Words.{view}
+use Rattle.ts_thread.specs.declared.desk.Desk.{Desk}
+use Rattle.ts_thread.specs.Desks.{KeepsDesk}
+use Rattle.ts_serve.specs.Door.{HasCause, IsAccount, IsNotAsked, KeepsDoor, KeepsSome, KeepsDeskSome, GoesOn}
+use Rattle.ts_serve.proofs.Books.{books_row}
+use Rattle.ts_serve.proofs.Desks.{desk_stays, desk_some, desk_on, desk_seat}
+
+-- a count does not fall
+grown : (b : Bool) (old new : ℕ) → Counted b old new → old ≤ new
+grown true old new rose = omega (arith, rose)
+grown false old new same = omega (arith, same)
+
+rose_on : (first old new : ℕ) → Rose first old → old ≤ new → Rose first new
+rose_on first old new rose more = omega (arith, rose, more)
+
+rose_from : (first old new : ℕ) → first ≤ old → Rose old new → Rose first new
+rose_from first old new more rose = omega (arith, rose, more)
+
+-- a cause stays one
+cause_on : (l : Listening) (first old new : NetCounts) → old.ends ≤ new.ends → old.faults ≤ new.faults
+    → HasCause l first old → HasCause l first new
+cause_on listening.Open first old new ends faults cause = tt
+cause_on listening.Closed first old new ends faults cause = rose_on first.ends old.ends new.ends cause ends
+cause_on listening.Failed first old new ends faults cause =
+    rose_on first.faults old.faults new.faults cause faults
+
+module _ {C O : Type 0} where
+  -- the account of a door that lets in as before, of a net whose counts did not fall
+  account_on : (first : NetCounts) (old new : Door) (before after : NetSeen C O)
+      → new.listening ≡ old.listening → new.came ≤ new.most → before.counts.ends ≤ after.counts.ends
+      → before.counts.faults ≤ after.counts.faults
+      → IsAccount first old before → IsAccount first new after
+  account_on first old new before after same few ends faults was = record {
+    few = few;
+    ends = let e = was.ends in omega arith;
+    faults = let e = was.faults in omega arith;
+    cause = subst (λ (l : Listening). HasCause l first after.counts) (sym same)
+        (cause_on old.listening first before.counts after.counts ends faults was.cause);
+  }
+
+  -- a net that was not asked
+  pub account_still : (first : NetCounts) (old new : Door) (before after : NetSeen C O)
+      → new.listening ≡ old.listening → new.came ≡ old.came → new.most ≡ old.most → IsNotAsked before after
+      → IsAccount first old before → IsAccount first new after
+  account_still first old new before after same came most still was =
+      let ends : after.counts.ends ≡ before.counts.ends = ap (λ (c : NetCounts). c.ends) still.counts in
+      let faults : after.counts.faults ≡ before.counts.faults = ap (λ (c : NetCounts). c.faults) still.counts in
+      account_on first old new before after same (let few = was.few in omega arith) (omega arith) (omega arith)
+      was
+
+  module _ {clients : link.Ghosts C} {origins : link.Ghosts O} {both : upstream.Ghosts O C} {number : ℕ} where
+    -- a client came
+    pub account_came : (first : NetCounts) (client : C) (origin : Option O) (old new : Door)
+        (before after : NetSeen C O) → new.listening ≡ old.listening → new.came ≡ old.came + 1
+        → new.most ≡ old.most → old.came < old.most
+        → Receives clients origins both number (arrival.Came client origin) before after
+        → IsAccount first old before → IsAccount first new after
+    account_came first client origin old new before after same came most low receives was =
+        account_on first old new before after same (omega arith)
+        (grown false before.counts.ends after.counts.ends receives.ends)
+        (grown false before.counts.faults after.counts.faults receives.faults) was
+
+    -- nobody came
+    pub account_nobody : (first : NetCounts) (old new : Door)
+        (before after : NetSeen C O) → new.listening ≡ old.listening → new.came ≡ old.came
+        → new.most ≡ old.most → Receives clients origins both number arrival.Nobody before after
+        → IsAccount first old before → IsAccount first new after
+    account_nobody first old new before after same came most receives was =
+        account_on first old new before after same (let few = was.few in omega arith)
+        (grown false before.counts.ends after.counts.ends receives.ends)
+        (grown false before.counts.faults after.counts.faults receives.faults) was
+
+    -- the net was closed
+    pub account_closed : (first : NetCounts) (old new : Door)
+        (before after : NetSeen C O) → new.listening ≡ listening.Closed → new.came ≡ old.came
+        → new.most ≡ old.most → Receives clients origins both number arrival.Closed before after
+        → IsAccount first old before → IsAccount first new after
+    account_closed first old new before after shut came most receives was = record {
+      few = let few = was.few in omega arith;
+      ends = let e = was.ends in
+          let more = grown true before.counts.ends after.counts.ends receives.ends in omega arith;
+      faults = let e = was.faults in
+          let more = grown false before.counts.faults after.counts.faults receives.faults in omega arith;
+      cause = subst (λ (l : Listening). HasCause l first after.counts) (sym shut)
+          (rose_from first.ends before.counts.ends after.counts.ends was.ends receives.ends);
+    }
+
+    -- the net failed
+    pub account_failed : (first : NetCounts) (old new : Door)
+        (before after : NetSeen C O) → new.listening ≡ listening.Failed → new.came ≡ old.came
+        → new.most ≡ old.most → Receives clients origins both number arrival.Failed before after
+        → IsAccount first old before → IsAccount first new after
+    account_failed first old new before after shut came most receives was = record {
+      few = let few = was.few in omega arith;
+      ends = let e = was.ends in
+          let more = grown false before.counts.ends after.counts.ends receives.ends in omega arith;
+      faults = let e = was.faults in
+          let more = grown true before.counts.faults after.counts.faults receives.faults in omega arith;
+      cause = subst (λ (l : Listening). HasCause l first after.counts) (sym shut)
+          (rose_from first.faults before.counts.faults after.counts.faults was.faults receives.faults);
+    }
+
+module _ {C O A : Type 0} (tells : Bool) (Done : A → Retired C O → Type 0) (Are : A → Type 0) where
+  pub door_stays : (door : Door) (net : NetSeen C O) → KeepsDoor tells Done Are door door net net
+  door_stays door net = record {
+    most = refl;
+    account = λ first was. was;
+    books = λ telling terms misdials places was. was;
+  }
+
+  pub door_on : (a b c : Door) (l m n : NetSeen C O) → KeepsDoor tells Done Are a b l m
+      → KeepsDoor tells Done Are b c m n → KeepsDoor tells Done Are a c l n
+  door_on a b c l m n one two = record {
+    most = two.most ∙ one.most;
+    account = λ first was. two.account first (one.account first was);
+    books = λ telling terms misdials places was. two.books telling terms misdials places
+        (one.books telling terms misdials places was);
+  }
+
+  -- what is kept of any terms is kept of these
+  pub door_of : (old new : Door) (before after : NetSeen C O)
+      → KeepsDoor tells Done (λ terms. ⊤) old new before after → KeepsDoor tells Done Are old new before after
+  door_of old new before after keeps = record {
+    most = keeps.most;
+    account = keeps.account;
+    books = λ telling terms misdials are. keeps.books telling terms misdials tt;
+  }
+
+  -- only what is booked of starts changed
+  pub door_row : (old new : Door) (net : NetSeen C O) → new.listening ≡ old.listening → new.came ≡ old.came
+      → new.most ≡ old.most → IsSameRow old.row.items new.row.items → KeepsDoor tells Done Are old new net net
+  door_row old new net listening came most alike = record {
+    most = most;
+    account = λ first. account_still first old new net net listening came most
+        (record { given = refl; counts = refl });
+    books = λ telling terms misdials places. books_row (Done terms) misdials old.row.items new.row.items net
+        alike;
+  }
+
+-- The first thread's steps, one after the other.
+module _ {C O A X G T : Type 0} {d : Ghosts X G T} {tells : Bool} {Done : A → Retired C O → Type 0}
+    {Are : A → Type 0} where
+  pub goes_nowhere : (desk : Desk X G T d) (door : Door) (net : NetSeen C O)
+      → GoesOn tells Done Are desk desk door door net net
+  goes_nowhere desk door net = record { at_desk = desk_stays desk; at_door = door_stays tells Done Are door net }
+
+  pub goes_further : (desk desk1 desk2 : Desk X G T d) (door door1 door2 : Door) (net net1 net2 : NetSeen C O)
+      → GoesOn tells Done Are desk desk1 door door1 net net1
+      → GoesOn tells Done Are desk1 desk2 door1 door2 net1 net2
+      → GoesOn tells Done Are desk desk2 door door2 net net2
+  goes_further desk desk1 desk2 door door1 door2 net net1 net2 one two = record {
+    at_desk = desk_on desk desk1 desk2 one.at_desk two.at_desk;
+    at_door = door_on tells Done Are door door1 door2 net net1 net2 one.at_door two.at_door;
+  }
+
+  -- the seat entered some groups, and something was done at the door
+  pub goes_at_door : (old new : Desk X G T d) (door door1 : Door) (net net1 : NetSeen C O)
+      → new.pass ≡ old.pass → KeepsSome (view old.seat) (view new.seat)
+      → KeepsDoor tells Done Are door door1 net net1 → GoesOn tells Done Are old new door door1 net net1
+  goes_at_door old new door door1 net net1 same seat keeps = record {
+    at_desk = desk_seat old new same seat;
+    at_door = keeps;
+  }
+
+  -- only the desk did something
+  pub goes_at_desk : (old new : Desk X G T d) (door : Door) (net : NetSeen C O) (most : ℕ)
+      → KeepsDesk old new most → GoesOn tells Done Are old new door door net net
+  goes_at_desk old new door net most keeps = record {
+    at_desk = desk_some old new most keeps;
+    at_door = door_stays tells Done Are door net;
+  }
+
+  -- guests were started
+  pub goes_at_start : (old new : Desk X G T d) (door door1 : Door) (net : NetSeen C O)
+      → KeepsDeskSome old new → door1.listening ≡ door.listening → door1.came ≡ door.came
+      → door1.most ≡ door.most → IsSameRow door.row.items door1.row.items
+      → GoesOn tells Done Are old new door door1 net net
+  goes_at_start old new door door1 net keeps listening came most alike = record {
+    at_desk = keeps;
+    at_door = door_row tells Done Are door door1 net listening came most alike;
+  }
+
+pub row_stays : (row : List Booking) → IsSameRow row row
+row_stays row = record { places = refl; numbers = λ x. refl; taken = refl; origins = refl }
+
+pub row_on : (a b c : List Booking) → IsSameRow a b → IsSameRow b c → IsSameRow a c
+row_on a b c one two = record {
+  places = two.places ∙ one.places;
+  numbers = λ x. two.numbers x ∙ one.numbers x;
+  taken = two.taken ∙ one.taken;
+  origins = two.origins ∙ one.origins;
+}

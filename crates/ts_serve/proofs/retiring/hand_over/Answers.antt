@@ -1,0 +1,31 @@
+-- What is left of a guest is handed over with the journal of its group.
+use Rattle.std.proofs.Common.{ap, sym, ◌∙◌}
+use Rattle.std.proofs.lemmas.Result.{on_ok_weaker}
+use Rattle.ts_group.specs.declared.either.Either.TheVariants.{One}
+use Rattle.ts_serve.proofs.Living.{ended_in, is_kept, one_guest}
+use Rattle.ts_serve.proofs.retiring.hand_over.Goals as goal
+
+pub returns-clause-ok : goal.returns-clause-ok
+returns-clause-ok g c =
+    let group = c.args.group in
+    let over = c.requires.over in
+    let world = sym c.into_parts-world.ensures.0 ∙ c.in-One-Tenant.is ∙ ap One c.in-One-Tenant.field-0-is in
+    let guest = one_guest over.guest c.in-One-Tenant.guest (sym over.lives ∙ world) in
+    let kept = is_kept group.cx.log c.journal-journal.result.now c.entries.result.now
+    c.journal-journal.ensures c.entries.ensures.entries c.entries.ensures.lawful c.entries.ensures.state
+    c.known-2.ensures.lived
+    c.known-2.ensures.valid.counts in
+    on_ok_weaker c.retire-2.result
+    (λ handed terms fits. record {
+      retired = c.retire.result;
+      handed = handed;
+      number_is = c.retire.ensures.number ∙ ap g.W.Guest.number_of (sym guest) ∙ over.number_is;
+      origin_is = c.retire.ensures.origin ∙ ap g.W.Guest.holds_origin (sym guest) ∙ over.origin_is;
+      done = c.retire.ensures.done terms
+          (ended_in g.W.Slotted.fits g.W.Lodger.keeps g.W.World.sound g.P.Slotted.fits g.P.World.sound
+          g.P.World.only_asked g.P.World.is_first g.W.Guest.number_of g.W.Guest.holds_origin
+          g.W.Guest.is_ended c.args.number c.args.has_origin terms group c.in-One-Tenant.guest
+          c.into_parts-world.result.1
+          over world c.into_parts-world.ensures.1 kept fits);
+    })
+    c.retire-2.ensures.ok

@@ -1,0 +1,25 @@
+-- The client that was booked for the place was handed over, and no client is lost.
+use Rattle.std.proofs.Common.{◌≡◌, ◌∙◌, get_or, sym}
+use Rattle.std.proofs.lemmas.List.{get_or_read}
+use Rattle.ts_serve.specs.declared.booking.Booking.TheVariants.{Free, Client}
+use Rattle.ts_serve.proofs.Books.{all_out}
+use Rattle.ts_serve.proofs.retiring.take_out_at.Goals as goal
+
+pub returns-then-branch-clause-all : goal.returns-then-branch-clause-all
+returns-then-branch-clause-all g c =
+    let place = c.requires.place.0 in
+    let booked = c.in-Client-default-default-true in
+    let found : get_or c.args.row.now.items c.args.k Free
+    ≡ Client booked.number booked.has_origin booked.started =
+    sym (get_or_read c.args.row.now.items c.args.k c.index.result.now c.requires.place.1 c.index.ensures Free)
+    ∙ booked.is in
+    let over = c.in_ok-retire_at.ensures.retired c.if-branch.true place.0 place.1 in
+    all_out g.N.Net.tells c.args.row.now.items c.args.k booked.number booked.has_origin booked.started
+    over.retired (g.N.Net.seen c.args.net.now) (g.N.Net.seen c.retire_at.new.net) c.requires.place.1 found
+    over.handed
+
+pub returns-then-branch-clause-net : goal.returns-then-branch-clause-net
+returns-then-branch-clause-net g c =
+    let place = c.requires.place.0 in
+    let over = c.in_ok-retire_at.ensures.retired c.if-branch.true place.0 place.1 in
+    record { given = over.handed.given; counts = over.handed.counts }

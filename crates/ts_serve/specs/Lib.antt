@@ -1,0 +1,9 @@
+-- The definitions that the contracts of the room of a net cite.
+pub mod Entering
+pub mod Places
+pub mod Guests
+pub mod Arrivals
+pub mod Books
+pub mod Door
+pub mod Rooms
+pub mod Transactions

@@ -1,0 +1,73 @@
+//! How a client is received, and its origin dialed.
+
+ghost use Rattle.std.specs.Prelude.{◌≡◌, ◌+◌, ◌<◌, ℕ, true, length, get_or};
+ghost use Rattle.ts_serve.specs.declared.booking.Booking.TheVariants as Booking;
+ghost use Rattle.ts_serve.specs.Arrivals.{Receives};
+ghost use Rattle.ts_serve.specs.Books.{Books, HasAll, row_after};
+
+use crate::booking::Booking;
+use crate::guest::Guest;
+use ts_txn::{Accepted, Dialed, Net};
+
+/// Who came to the door.
+#[derive(Drop)]
+pub enum Arrival<C, O> {
+    /// A client, with its origin, if that was reached.
+    Came { client: C, origin: Option<O> },
+    /// No client is there yet.
+    Nobody,
+    /// None comes any more.
+    Closed,
+    Failed,
+}
+
+/// Accepts the client of this number, if one is there, dials its origin, and books it for the place k, which
+/// is free.
+pub fn receive<N: Net, W: Guest<N::Client, N::Origin>>(
+    net: &mut N,
+    row: &mut Vec<Booking>,
+    k: u32,
+    number: u64,
+) -> Arrival<N::Client, N::Origin>
+    requires place { k < length row.old.items }
+    requires free { get_or row.old.items k Booking.Free ≡ Booking.Free }
+    requires number { number ≡ (N.seen net.old).given + 1 }
+    ensures receives { Receives N.Client.Link N.Origin.Link N.Origin.Upstream.own
+        number result (N.seen net.old) (N.seen net.new) }
+    ensures row { row.new.items ≡ row_after k number result row.old.items }
+    ensures books { N.tells ≡ true → (terms : W.Terms) (misdials : ℕ)
+        → Books (W.is_done terms) misdials row.old.items (N.seen net.old)
+        → Books (W.is_done terms) misdials row.new.items (N.seen net.new) }
+    ensures all { HasAll row.old.items (N.seen net.old) → HasAll row.new.items (N.seen net.new) }
+{
+    let client = match net.accept() {
+        Accepted::Client(client) => client,
+        Accepted::Again => return Arrival::Nobody,
+        Accepted::Closed => return Arrival::Closed,
+        Accepted::Failed => return Arrival::Failed,
+    };
+    match net.dial() {
+        Dialed::Origin(origin) => {
+            row[k as usize] = Booking::Client {
+                number,
+                has_origin: true,
+                started: false,
+            };
+            Arrival::Came {
+                client,
+                origin: Some(origin),
+            }
+        }
+        Dialed::Failed => {
+            row[k as usize] = Booking::Client {
+                number,
+                has_origin: false,
+                started: false,
+            };
+            Arrival::Came {
+                client,
+                origin: None,
+            }
+        }
+    }
+}
