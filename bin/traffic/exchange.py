@@ -1,0 +1,20 @@
+"""An exchange: what a client and an origin gave, or why there is nothing of it to be replayed."""
+
+# what is raised where a file of another program is not in the form that it should have
+FORM_FAULTS = (AttributeError, KeyError, OverflowError, RecursionError, TypeError, ValueError)
+
+
+class Exchange:
+    """The bytes of both sides. `rewritten` says that they were no HTTP/1.1 and are written as such here."""
+
+    def __init__(self, client, origin, rewritten=False):
+        self.client, self.origin, self.rewritten = client, origin, rewritten
+
+
+class LeftOut(Exception):
+    """Why an exchange is not in the recording."""
+
+
+def octets(text):
+    """The bytes of a text; those of a file that are no UTF-8 stand for themselves."""
+    return text.encode("utf-8", "surrogateescape")

@@ -1,0 +1,84 @@
+"""HAR files, as browsers write them: of each entry what the client and the origin would have given over
+HTTP/1.1."""
+import base64
+import json
+import urllib.parse
+
+from . import wire
+from .exchange import FORM_FAULTS, Exchange, LeftOut, octets
+
+# what a browser has undone of a body before it wrote it down, or what was said of one connection alone
+DROPPED = {b"content-encoding", b"transfer-encoding", b"content-length", b"connection", b"keep-alive"}
+
+
+def exchanges(text):
+    """The exchanges of a HAR file in its order; in place of one that is left out, why."""
+    for entry in json.loads(text.decode("utf-8-sig"))["log"]["entries"]:
+        try:
+            yield exchange_of(entry)
+        except LeftOut as reason:
+            yield reason
+        except FORM_FAULTS as fault:
+            yield LeftOut(f"it is no entry of a HAR file: {fault!r}")
+
+
+def exchange_of(entry):
+    request, response = entry["request"], entry["response"]
+    url = urllib.parse.urlsplit(request["url"])
+    if url.scheme not in ("http", "https"):
+        raise LeftOut(f"a URL of the scheme {url.scheme}")
+    status = int(response["status"])
+    if not 100 <= status <= 999:
+        raise LeftOut("it has no answer")
+    method = octets(request["method"])
+    first = b"%b %b HTTP/1.1" % (method, target_of(url))
+    posted = octets(request.get("postData", {}).get("text", ""))
+    asked = wire.message(first, request_fields(request, url, posted), posted)
+    status_line = b"HTTP/1.1 %03d %b" % (status, octets(response.get("statusText", "")))
+    body = b"" if wire.has_no_body(status, method) else body_of(response["content"])
+    answered = wire.message(status_line, response_fields(response, status, method, body), body)
+    versions = (request.get("httpVersion", ""), response.get("httpVersion", ""))
+    return Exchange(asked, answered, rewritten=any(is_later(version) for version in versions))
+
+
+def is_later(version):
+    """Whether this is a version of HTTP whose messages are no text."""
+    return version.lower().startswith(("h2", "h3", "http/2", "http/3"))
+
+
+def target_of(url):
+    path = url.path or "/"
+    return octets(f"{path}?{url.query}" if url.query else path)
+
+
+def fields_of(headers):
+    """The fields of a message; several values of one name are joined by line feeds there."""
+    for header in headers:
+        if not header["name"].startswith(":"):
+            for value in header["value"].split("\n"):
+                yield octets(header["name"]), octets(value.strip())
+
+
+def request_fields(request, url, body):
+    fields = [field for field in fields_of(request["headers"]) if field[0].lower() not in DROPPED]
+    if all(name.lower() != b"host" for name, _ in fields):
+        fields.insert(0, (b"Host", octets(url.netloc.rpartition("@")[2])))
+    return fields + [(b"Content-Length", b"%d" % len(body))] if body else fields
+
+
+def response_fields(response, status, method, body):
+    """The fields with the body's own length. Of a response without a body all but its chunks stay."""
+    fields = list(fields_of(response["headers"]))
+    if wire.has_no_body(status, method):
+        return [field for field in fields if field[0].lower() != b"transfer-encoding"]
+    kept = [field for field in fields if field[0].lower() not in DROPPED]
+    return [*kept, (b"Content-Length", b"%d" % len(body))]
+
+
+def body_of(content):
+    if "text" not in content:
+        if content.get("size", 0) > 0:
+            raise LeftOut("its body is not in the file")
+        return b""
+    text = content["text"]
+    return base64.b64decode(text) if content.get("encoding") == "base64" else octets(text)
