@@ -69,68 +69,67 @@ asked n.Delay (ms ∷ []) line is =
 asked name words line is = absurd (let wrong : None ≡ Some line = is in cc)
 
 -- a line that means a transform has a name, and the words that ask for it
-module _ (names : List PluginName) where
-  pub entry_asked : (words : List (List ℕ)) (line : TransformLine)
-      → Ok (Transform line) ≡ line_entry names words
-      → (name : PluginName) × (first : List ℕ) × (others : List (List ℕ)) × (words ≡ first ∷ others)
-      × (name_of names first ≡ Some name) × (transform_of name others ≡ Some line)
-  entry_asked [] line is =
-      absurd (let wrong : Ok (Transform line) ≡ Ok Empty = is in let inner : Transform line ≡ Empty = cc in cc)
-  entry_asked (word ∷ others) line is = by_name (name_of names word) refl is
-    where
-      by_line : (name : PluginName) → name_of names word ≡ Some name → (o : Option TransformLine)
-          → (p : Option PluginLine) → transform_of name others ≡ o → Ok (Transform line) ≡ fitting o p
-          → (name : PluginName) × (first : List ℕ) × (rest : List (List ℕ)) × (word ∷ others ≡ first ∷ rest)
-          × (name_of names first ≡ Some name) × (transform_of name rest ≡ Some line)
-      by_line name found None None none wrong =
-          absurd (let e : Ok (Transform line) ≡ Err k.Arguments = wrong in cc)
-      by_line name found None (Some p) none wrong =
-          absurd (let e : Ok (Transform line) ≡ Ok (Plugin p) = wrong in
-          let inner : Transform line ≡ Plugin p = cc in cc)
-      by_line name found (Some l) p some same =
-          let inner : Transform line ≡ Transform l = let e : Ok (Transform line) ≡ Ok (Transform l) = same in
-          cc in
-          let equal : l ≡ line = cc in
-          (name, word, others, refl, found, some ∙ ap (λ x. Some x) equal)
+pub entry_asked : (words : List (List ℕ)) (line : TransformLine)
+    → Ok (Transform line) ≡ line_entry words
+    → (name : PluginName) × (first : List ℕ) × (others : List (List ℕ)) × (words ≡ first ∷ others)
+    × (name_of first ≡ Some name) × (transform_of name others ≡ Some line)
+entry_asked [] line is =
+    absurd (let wrong : Ok (Transform line) ≡ Ok Empty = is in let inner : Transform line ≡ Empty = cc in cc)
+entry_asked (word ∷ others) line is = by_name (name_of word) refl is
+  where
+    by_line : (name : PluginName) → name_of word ≡ Some name → (o : Option TransformLine)
+        → (p : Option PluginLine) → transform_of name others ≡ o → Ok (Transform line) ≡ fitting o p
+        → (name : PluginName) × (first : List ℕ) × (rest : List (List ℕ)) × (word ∷ others ≡ first ∷ rest)
+        × (name_of first ≡ Some name) × (transform_of name rest ≡ Some line)
+    by_line name found None None none wrong =
+        absurd (let e : Ok (Transform line) ≡ Err k.Arguments = wrong in cc)
+    by_line name found None (Some p) none wrong =
+        absurd (let e : Ok (Transform line) ≡ Ok (Plugin p) = wrong in
+        let inner : Transform line ≡ Plugin p = cc in cc)
+    by_line name found (Some l) p some same =
+        let inner : Transform line ≡ Transform l = let e : Ok (Transform line) ≡ Ok (Transform l) = same in
+        cc in
+        let equal : l ≡ line = cc in
+        (name, word, others, refl, found, some ∙ ap (λ x. Some x) equal)
 
-      by_name : (o : Option PluginName) → name_of names word ≡ o
-          → Ok (Transform line) ≡ named_entry o others
-          → (name : PluginName) × (first : List ℕ) × (rest : List (List ℕ)) × (word ∷ others ≡ first ∷ rest)
-          × (name_of names first ≡ Some name) × (transform_of name rest ≡ Some line)
-      by_name None none wrong = absurd (let e : Ok (Transform line) ≡ Err k.Plugin = wrong in cc)
-      by_name (Some name) some same =
-          by_line name some (transform_of name others) (plugin_of name others) refl same
+    by_name : (o : Option PluginName) → name_of word ≡ o
+        → Ok (Transform line) ≡ named_entry o others
+        → (name : PluginName) × (first : List ℕ) × (rest : List (List ℕ)) × (word ∷ others ≡ first ∷ rest)
+        × (name_of first ≡ Some name) × (transform_of name rest ≡ Some line)
+    by_name None none wrong = absurd (let e : Ok (Transform line) ≡ Err k.Plugin = wrong in cc)
+    by_name (Some name) some same =
+        by_line name some (transform_of name others) (plugin_of name others) refl same
 
-  -- and so one that means a hook plugin
-  pub entry_hooked : (words : List (List ℕ)) (line : PluginLine)
-      → Ok (Plugin line) ≡ line_entry names words
-      → (name : PluginName) × (first : List ℕ) × (others : List (List ℕ)) × (words ≡ first ∷ others)
-      × (name_of names first ≡ Some name) × (plugin_of name others ≡ Some line)
-  entry_hooked [] line is =
-      absurd (let wrong : Ok (Plugin line) ≡ Ok Empty = is in let inner : Plugin line ≡ Empty = cc in cc)
-  entry_hooked (word ∷ others) line is = by_name (name_of names word) refl is
-    where
-      by_line : (name : PluginName) → name_of names word ≡ Some name → (o : Option TransformLine)
-          → (p : Option PluginLine) → plugin_of name others ≡ p → Ok (Plugin line) ≡ fitting o p
-          → (name : PluginName) × (first : List ℕ) × (rest : List (List ℕ)) × (word ∷ others ≡ first ∷ rest)
-          × (name_of names first ≡ Some name) × (plugin_of name rest ≡ Some line)
-      by_line name found None None none wrong =
-          absurd (let e : Ok (Plugin line) ≡ Err k.Arguments = wrong in cc)
-      by_line name found (Some l) p some wrong =
-          absurd (let e : Ok (Plugin line) ≡ Ok (Transform l) = wrong in
-          let inner : Plugin line ≡ Transform l = cc in cc)
-      by_line name found None (Some p) some same =
-          let inner : Plugin line ≡ Plugin p = let e : Ok (Plugin line) ≡ Ok (Plugin p) = same in cc in
-          let equal : p ≡ line = cc in
-          (name, word, others, refl, found, some ∙ ap (λ x. Some x) equal)
+-- and so one that means a hook plugin
+pub entry_hooked : (words : List (List ℕ)) (line : PluginLine)
+    → Ok (Plugin line) ≡ line_entry words
+    → (name : PluginName) × (first : List ℕ) × (others : List (List ℕ)) × (words ≡ first ∷ others)
+    × (name_of first ≡ Some name) × (plugin_of name others ≡ Some line)
+entry_hooked [] line is =
+    absurd (let wrong : Ok (Plugin line) ≡ Ok Empty = is in let inner : Plugin line ≡ Empty = cc in cc)
+entry_hooked (word ∷ others) line is = by_name (name_of word) refl is
+  where
+    by_line : (name : PluginName) → name_of word ≡ Some name → (o : Option TransformLine)
+        → (p : Option PluginLine) → plugin_of name others ≡ p → Ok (Plugin line) ≡ fitting o p
+        → (name : PluginName) × (first : List ℕ) × (rest : List (List ℕ)) × (word ∷ others ≡ first ∷ rest)
+        × (name_of first ≡ Some name) × (plugin_of name rest ≡ Some line)
+    by_line name found None None none wrong =
+        absurd (let e : Ok (Plugin line) ≡ Err k.Arguments = wrong in cc)
+    by_line name found (Some l) p some wrong =
+        absurd (let e : Ok (Plugin line) ≡ Ok (Transform l) = wrong in
+        let inner : Plugin line ≡ Transform l = cc in cc)
+    by_line name found None (Some p) some same =
+        let inner : Plugin line ≡ Plugin p = let e : Ok (Plugin line) ≡ Ok (Plugin p) = same in cc in
+        let equal : p ≡ line = cc in
+        (name, word, others, refl, found, some ∙ ap (λ x. Some x) equal)
 
-      by_name : (o : Option PluginName) → name_of names word ≡ o
-          → Ok (Plugin line) ≡ named_entry o others
-          → (name : PluginName) × (first : List ℕ) × (rest : List (List ℕ)) × (word ∷ others ≡ first ∷ rest)
-          × (name_of names first ≡ Some name) × (plugin_of name rest ≡ Some line)
-      by_name None none wrong = absurd (let e : Ok (Plugin line) ≡ Err k.Plugin = wrong in cc)
-      by_name (Some name) some same =
-          by_line name some (transform_of name others) (plugin_of name others) refl same
+    by_name : (o : Option PluginName) → name_of word ≡ o
+        → Ok (Plugin line) ≡ named_entry o others
+        → (name : PluginName) × (first : List ℕ) × (rest : List (List ℕ)) × (word ∷ others ≡ first ∷ rest)
+        × (name_of first ≡ Some name) × (plugin_of name rest ≡ Some line)
+    by_name None none wrong = absurd (let e : Ok (Plugin line) ≡ Err k.Plugin = wrong in cc)
+    by_name (Some name) some same =
+        by_line name some (transform_of name others) (plugin_of name others) refl same
 
 -- the text of a file is empty in it
 pub untexted-asked : (line : TransformLine) (name : PluginName) (words : List (List ℕ)) → Asks line name words

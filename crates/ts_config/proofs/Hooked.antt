@@ -186,8 +186,10 @@ hooked_plain (Header side rule) is = rule_plain rule is
 side_fine : (side : Side) → IsFine (side_word side)
 side_fine S.Request =
     record { writable = inr (name_quotable (codes "request") refl); text = plain_text (codes "request") refl }
-side_fine S.Response =
-    record { writable = inr (name_quotable (codes "response") refl); text = plain_text (codes "response") refl }
+side_fine S.Response = record {
+  writable = inr (name_quotable (codes "response") refl);
+  text = plain_text (codes "response") refl;
+}
 
 set_fine : IsFine (codes "set")
 set_fine = record { writable = inr (name_quotable (codes "set") refl); text = plain_text (codes "set") refl }
@@ -215,12 +217,12 @@ side_again S.Response = refl
 
 rule_again : (rule : Rule) → IsPrintableRule rule → rule_of (rule_words rule) ≡ Some rule
 rule_again (Set name value) is =
-    ap (λ o. option_and_then (λ n. option_and_then (λ v. putting (codes "set") n v) (rule_value value.bytes)) o)
-    is.0
+    let text : List ℕ = value.bytes in
+    ap (λ o. option_and_then (λ n. option_and_then (λ v. putting (codes "set") n v) (rule_value text)) o) is.0
     ∙ ap (λ o. option_and_then (λ v. putting (codes "set") name v) o) is.1.0
 rule_again (Add name value) is =
-    ap (λ o. option_and_then (λ n. option_and_then (λ v. putting (codes "add") n v) (rule_value value.bytes)) o)
-    is.0
+    let text : List ℕ = value.bytes in
+    ap (λ o. option_and_then (λ n. option_and_then (λ v. putting (codes "add") n v) (rule_value text)) o) is.0
     ∙ ap (λ o. option_and_then (λ v. putting (codes "add") name v) o) is.1.0
 rule_again (Remove name) is = ap (option_map (λ n. Remove n)) is
 

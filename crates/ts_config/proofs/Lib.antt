@@ -1,5 +1,4 @@
 pub mod Again
-pub mod Answered
 pub mod Asked
 pub mod Cuts
 pub mod Digits
@@ -10,7 +9,6 @@ pub mod Hooked
 pub mod LineCuts
 pub mod LinesSoFar
 pub mod Meanings
-pub mod MoreNames
 pub mod OneReading
 pub mod Printable
 pub mod ReadBack

@@ -5,7 +5,6 @@ use Rattle.std.proofs.lemmas.Bool.Decides.{nat_tests}
 use Rattle.ts_config.specs.declared.setup.LineMeaning.{LineMeaning}
 use Rattle.ts_config.specs.declared.setup.LineMeaning.TheVariants.{Empty, Transform, Plugin}
 use Rattle.ts_config.specs.declared.setup.ConfigKind.{ConfigKind}
-use Rattle.ts_config.specs.declared.table.PluginName.{PluginName}
 use Rattle.ts_config.specs.Lines.{config_lines}
 use Rattle.ts_config.specs.Setup.{ConfigLines}
 use Rattle.ts_config.specs.Reading.{Means, transform_in, transforms_in, plugin_in, plugins_in, lines_in, with_line, has_room, AreFew, AreRead, Breaks, IsFault, RefusesRightly, IsConfiguration}
@@ -85,81 +84,80 @@ room_before es (Plugin p) fs few =
 pub no_lines_few : AreFew no_lines
 no_lines_few = record { transforms = omega arith; plugins = omega arith }
 
-module _ (names : List PluginName) where
-  -- the lines before the rest are so many, and were read as these
-  pub record LinesRead (bytes rest : List ℕ) (number : ℕ) (lines : ConfigLines) : Type 0 where
-    pub before : List (List ℕ)
-    pub es : List LineMeaning
-    pub text_is : config_lines bytes ≡ before ++ config_lines rest
-    pub number_is : number ≡ length before
-    pub fine : AreRead names before es
-    pub lines_are : lines ≡ lines_in es
+-- the lines before the rest are so many, and were read as these
+pub record LinesRead (bytes rest : List ℕ) (number : ℕ) (lines : ConfigLines) : Type 0 where
+  pub before : List (List ℕ)
+  pub es : List LineMeaning
+  pub text_is : config_lines bytes ≡ before ++ config_lines rest
+  pub number_is : number ≡ length before
+  pub fine : AreRead before es
+  pub lines_are : lines ≡ lines_in es
 
-  pub each_more : (lines : List (List ℕ)) (es : List LineMeaning) (line : List ℕ) (e : LineMeaning)
-      → AllZip (λ l m. Means names l (Ok m)) lines es → Means names line (Ok e)
-      → AllZip (λ l m. Means names l (Ok m)) (lines ++ line ∷ []) (es ++ e ∷ [])
-  each_more [] [] line e each means = (means, tt)
-  each_more [] (f ∷ fs) line e each means = absurd each
-  each_more (l ∷ ls) [] line e each means = absurd each
-  each_more (l ∷ ls) (f ∷ fs) line e each means = (each.0, each_more ls fs line e each.1 means)
+pub each_more : (lines : List (List ℕ)) (es : List LineMeaning) (line : List ℕ) (e : LineMeaning)
+    → AllZip (λ l m. Means l (Ok m)) lines es → Means line (Ok e)
+    → AllZip (λ l m. Means l (Ok m)) (lines ++ line ∷ []) (es ++ e ∷ [])
+each_more [] [] line e each means = (means, tt)
+each_more [] (f ∷ fs) line e each means = absurd each
+each_more (l ∷ ls) [] line e each means = absurd each
+each_more (l ∷ ls) (f ∷ fs) line e each means = (each.0, each_more ls fs line e each.1 means)
 
-  pub none_read : (bytes : List ℕ) → LinesRead bytes bytes 0 no_lines
-  none_read bytes = record {
-    before = [];
-    es = [];
-    text_is = refl;
-    number_is = refl;
-    fine = record { each = tt; few = no_lines_few };
-    lines_are = refl;
-  }
+pub none_read : (bytes : List ℕ) → LinesRead bytes bytes 0 no_lines
+none_read bytes = record {
+  before = [];
+  es = [];
+  text_is = refl;
+  number_is = refl;
+  fine = record { each = tt; few = no_lines_few };
+  lines_are = refl;
+}
 
-  module _ (bytes rest : List ℕ) (number : ℕ) (lines : ConfigLines)
-      (read : LinesRead bytes rest number lines) (line behind : List ℕ)
-      (cut : config_lines rest ≡ line ∷ config_lines behind) where
-    text_with : config_lines bytes ≡ read.before ++ line ∷ config_lines behind
-    text_with = read.text_is ∙ ap (λ ls. read.before ++ ls) cut
+module _ (bytes rest : List ℕ) (number : ℕ) (lines : ConfigLines)
+    (read : LinesRead bytes rest number lines) (line behind : List ℕ)
+    (cut : config_lines rest ≡ line ∷ config_lines behind) where
+  text_with : config_lines bytes ≡ read.before ++ line ∷ config_lines behind
+  text_with = read.text_is ∙ ap (λ ls. read.before ++ ls) cut
 
-    pub line_more : (now : ConfigLines) → Adds names line lines now → AreFew now
-        → LinesRead bytes behind (number + 1) now
-    line_more now adds few =
-        let all : now ≡ lines_in (read.es ++ adds.e ∷ []) =
-        adds.new_is ∙ ap (λ (ls : ConfigLines). with_line ls adds.e) read.lines_are
-        ∙ sym (lines_in-more read.es adds.e) in
-        record {
-          before = read.before ++ line ∷ [];
-          es = read.es ++ adds.e ∷ [];
-          text_is = text_with ∙ sym (append_assoc read.before (line ∷ []) (config_lines behind));
-          number_is = omega (arith, read.number_is, length-append read.before (line ∷ []));
-          fine = record {
-            each = each_more read.before read.es line adds.e read.fine.each adds.means;
-            few = subst AreFew all few;
-          };
-          lines_are = all;
-        }
+  pub line_more : (now : ConfigLines) → Adds line lines now → AreFew now
+      → LinesRead bytes behind (number + 1) now
+  line_more now adds few =
+      let all : now ≡ lines_in (read.es ++ adds.e ∷ []) =
+      adds.new_is ∙ ap (λ (ls : ConfigLines). with_line ls adds.e) read.lines_are
+      ∙ sym (lines_in-more read.es adds.e) in
+      record {
+        before = read.before ++ line ∷ [];
+        es = read.es ++ adds.e ∷ [];
+        text_is = text_with ∙ sym (append_assoc read.before (line ∷ []) (config_lines behind));
+        number_is = omega (arith, read.number_is, length-append read.before (line ∷ []));
+        fine = record {
+          each = each_more read.before read.es line adds.e read.fine.each adds.means;
+          few = subst AreFew all few;
+        };
+        lines_are = all;
+      }
 
-    line_at_fault : (kind : ConfigKind) → Breaks names lines line kind
-        → IsFault names (config_lines bytes) (number + 1) kind
-    line_at_fault kind breaks = record {
-      before = read.before;
-      line = line;
-      after = config_lines behind;
-      es = read.es;
-      lines_are = text_with;
-      number = ap (λ n. n + 1) read.number_is;
-      fine = read.fine;
-      breaks = subst (λ ls. Breaks names ls line kind) read.lines_are breaks;
-    }
-
-    pub refused_line : (refusal : LineRefusal) → BreaksUnlessMemory names lines line refusal
-        → RefusesRightly names (config_lines bytes) (refusal_at (number + 1) refusal)
-    refused_line r.NoMemory breaks = tt
-    refused_line (r.Kind kind) breaks = line_at_fault kind breaks
-
-  pub all_lines : (bytes rest : List ℕ) (number : ℕ) (lines : ConfigLines)
-      → LinesRead bytes rest number lines → length rest ≡ 0 → IsConfiguration names bytes lines
-  all_lines bytes [] number lines read empty = record {
+  line_at_fault : (kind : ConfigKind) → Breaks lines line kind
+      → IsFault (config_lines bytes) (number + 1) kind
+  line_at_fault kind breaks = record {
+    before = read.before;
+    line = line;
+    after = config_lines behind;
     es = read.es;
-    read = subst (λ ls. AreRead names ls read.es) (sym (read.text_is ∙ append-nil read.before)) read.fine;
-    lines_are = read.lines_are;
+    lines_are = text_with;
+    number = ap (λ n. n + 1) read.number_is;
+    fine = read.fine;
+    breaks = subst (λ ls. Breaks ls line kind) read.lines_are breaks;
   }
-  all_lines bytes (b ∷ bs) number lines read empty = absurd (omega (arith, empty))
+
+  pub refused_line : (refusal : LineRefusal) → BreaksUnlessMemory lines line refusal
+      → RefusesRightly (config_lines bytes) (refusal_at (number + 1) refusal)
+  refused_line r.NoMemory breaks = tt
+  refused_line (r.Kind kind) breaks = line_at_fault kind breaks
+
+pub all_lines : (bytes rest : List ℕ) (number : ℕ) (lines : ConfigLines)
+    → LinesRead bytes rest number lines → length rest ≡ 0 → IsConfiguration bytes lines
+all_lines bytes [] number lines read empty = record {
+  es = read.es;
+  read = subst (λ ls. AreRead ls read.es) (sym (read.text_is ∙ append-nil read.before)) read.fine;
+  lines_are = read.lines_are;
+}
+all_lines bytes (b ∷ bs) number lines read empty = absurd (omega (arith, empty))

@@ -21,7 +21,6 @@ use Rattle.ts_config.specs.Numerals.{hex_value, byte_of, number_of, has_no_leadi
 use Rattle.ts_config.specs.Setup.{ConfigLines, untexted, HasFileName}
 use Rattle.ts_config.specs.Reading.{Means, transforms_in, plugins_in, ComeFromText}
 use Rattle.ts_config.specs.Rules.{HasPlainRule}
-use Rattle.ts_config.specs.Table.{all_names}
 use Rattle.ts_config.proofs.Again.{hex_small}
 use Rattle.ts_config.proofs.Asked.{Asks, asked, entry_asked, entry_hooked, mapped, chained, chosen}
 use Rattle.ts_config.proofs.FineWords.{IsFine, words_fine}
@@ -98,35 +97,34 @@ asked_printable (t.Drop b) name words (named, (byte, are, first)) fine =
     byte_small byte b one.text.utf8 first
 asked_printable (t.Delay m) name words (named, (ms, are, first)) fine = number_small 60000 ms m first
 
-module _ (names : List PluginName) where
-  line_printable : (line : List ℕ) (l : TransformLine) → Means names line (Ok (Transform l)) → IsPrintable l
-  line_printable line l means =
-      let (text, found) = in_words names line (Transform l) means in
-      let (name, first, others, split, named, some) = entry_asked names found.0 l found.2 in
-      let fine = subst (AllByRecursion IsFine) split
-      (words_fine found.0 line (text-from line text) found.1) in
-      asked_printable l name others (asked name others l some) fine.1
+line_printable : (line : List ℕ) (l : TransformLine) → Means line (Ok (Transform l)) → IsPrintable l
+line_printable line l means =
+    let (text, found) = in_words line (Transform l) means in
+    let (name, first, others, split, named, some) = entry_asked found.0 l found.2 in
+    let fine = subst (AllByRecursion IsFine) split
+    (words_fine found.0 line (text-from line text) found.1) in
+    asked_printable l name others (asked name others l some) fine.1
 
-  plugin_printable : (line : List ℕ) (p : PluginLine) → Means names line (Ok (Plugin p))
-      → IsPrintablePlugin p
-  plugin_printable line p means =
-      let (text, found) = in_words names line (Plugin p) means in
-      let (name, first, others, split, named, some) = entry_hooked names found.0 p found.2 in
-      let fine = subst (AllByRecursion IsFine) split
-      (words_fine found.0 line (text-from line text) found.1) in
-      hooked_printable name others p fine.1 some
+plugin_printable : (line : List ℕ) (p : PluginLine) → Means line (Ok (Plugin p))
+    → IsPrintablePlugin p
+plugin_printable line p means =
+    let (text, found) = in_words line (Plugin p) means in
+    let (name, first, others, split, named, some) = entry_hooked found.0 p found.2 in
+    let fine = subst (AllByRecursion IsFine) split
+    (words_fine found.0 line (text-from line text) found.1) in
+    hooked_printable name others p fine.1 some
 
-  lines_printable : (lines : List (List ℕ)) (es : List LineMeaning)
-      → AllZip (λ l m. Means names l (Ok m)) lines es
-      → AllByRecursion IsPrintable (transforms_in es) × AllByRecursion IsPrintablePlugin (plugins_in es)
-  lines_printable [] [] each = (tt, tt)
-  lines_printable [] (e ∷ es) each = absurd each
-  lines_printable (l ∷ ls) [] each = absurd each
-  lines_printable (l ∷ ls) (Empty ∷ es) each = lines_printable ls es each.1
-  lines_printable (l ∷ ls) (Transform t ∷ es) each =
-      let others = lines_printable ls es each.1 in ((line_printable l t each.0, others.0), others.1)
-  lines_printable (l ∷ ls) (Plugin p ∷ es) each =
-      let others = lines_printable ls es each.1 in (others.0, (plugin_printable l p each.0, others.1))
+lines_printable : (lines : List (List ℕ)) (es : List LineMeaning)
+    → AllZip (λ l m. Means l (Ok m)) lines es
+    → AllByRecursion IsPrintable (transforms_in es) × AllByRecursion IsPrintablePlugin (plugins_in es)
+lines_printable [] [] each = (tt, tt)
+lines_printable [] (e ∷ es) each = absurd each
+lines_printable (l ∷ ls) [] each = absurd each
+lines_printable (l ∷ ls) (Empty ∷ es) each = lines_printable ls es each.1
+lines_printable (l ∷ ls) (Transform t ∷ es) each =
+    let others = lines_printable ls es each.1 in ((line_printable l t each.0, others.0), others.1)
+lines_printable (l ∷ ls) (Plugin p ∷ es) each =
+    let others = lines_printable ls es each.1 in (others.0, (plugin_printable l p each.0, others.1))
 
 -- the texts of files are left aside
 untexted_printable : (line : TransformLine) → IsPrintable (untexted line) → IsPrintable line
@@ -147,7 +145,7 @@ all_untexted (l ∷ ls) are = (untexted_printable l are.0, all_untexted ls are.1
 pub come_printable : (ls : ConfigLines) → ComeFromText ls
     → AllByRecursion IsPrintable ls.transforms × AllByRecursion IsPrintablePlugin ls.plugins
 come_printable ls from =
-    let are = lines_printable all_names (config_lines from.bytes) from.read.es from.read.read.each in (
+    let are = lines_printable (config_lines from.bytes) from.read.es from.read.read.each in (
       all_untexted ls.transforms (subst (AllByRecursion IsPrintable)
           (sym (ap (λ (xs : ConfigLines). xs.transforms) from.read.lines_are)) are.0),
       subst (AllByRecursion IsPrintablePlugin)

@@ -24,7 +24,7 @@ use Rattle.ts_config.specs.Printing.{spelled_words, line_name, line_arguments, p
 use Rattle.ts_config.specs.Reading.{is_text_byte, Means, MeansByWords, lines_in, AreFew, AreRead, IsConfiguration, ComeFromText}
 use Rattle.ts_config.specs.Rules.{plugin_words}
 use Rattle.ts_config.specs.Setup.{ConfigLines, untexted, untexted_lines}
-use Rattle.ts_config.specs.Table.{spelling, all_names, name_of, transform_of, plugin_of, fitting, named_entry, line_entry}
+use Rattle.ts_config.specs.Table.{spelling, name_of, transform_of, plugin_of, fitting, named_entry, line_entry}
 use Rattle.ts_config.specs.Words.{is_end, IsPlain, IsWords}
 use Rattle.ts_config.proofs.Again.{byte_again, number_again}
 use Rattle.ts_config.proofs.FineWords.{IsFine}
@@ -127,7 +127,7 @@ name_text n.Delay = plain_text (spelling n.Delay) refl
 name_text n.Deny = plain_text (spelling n.Deny) refl
 name_text n.Header = plain_text (spelling n.Header) refl
 
-name_again : (name : PluginName) → name_of all_names (spelling name) ≡ Some name
+name_again : (name : PluginName) → name_of (spelling name) ≡ Some name
 name_again n.Null = refl
 name_again n.Append = refl
 name_again n.Bnull = refl
@@ -182,14 +182,14 @@ line_is_text name words fine =
 -- a line means what its name and words mean
 line_means : (name : PluginName) (words : List (List ℕ)) (e : LineMeaning) → AllByRecursion IsFine words
     → fitting (transform_of name words) (plugin_of name words) ≡ Ok e
-    → Means all_names (words_line name words) (Ok e)
+    → Means (words_line name words) (Ok e)
 line_means name words e fine is =
     let line : List ℕ = words_line name words in
     let are : IsWords line (spelling name ∷ words) =
     line_words_again (spelling name) words (name_plain name) fine in
-    let entry : line_entry all_names (spelling name ∷ words) ≡ Ok e =
+    let entry : line_entry (spelling name ∷ words) ≡ Ok e =
     ap (λ o. named_entry o words) (name_again name) ∙ is in
-    subst (λ b. MatchBool b (MeansByWords all_names line (Ok e)) (Ok e ≡ Err k.Text))
+    subst (λ b. MatchBool b (MeansByWords line (Ok e)) (Ok e ≡ Err k.Text))
     (sym (text-is line (line_is_text name words fine)))
     (inl (spelling name ∷ words, are, sym entry))
 
@@ -233,7 +233,7 @@ entry_is_text : (x : Entry) → IsPrintableEntry x → IsText (entry_text x)
 entry_is_text (inl l) is = line_is_text (line_name l) (line_arguments l) (arguments_fine l is)
 entry_is_text (inr p) is = line_is_text (plugin_name p) (plugin_words p) (hooked_fine p is)
 
-entry_means : (x : Entry) → IsPrintableEntry x → Means all_names (entry_text x) (Ok (meaning x))
+entry_means : (x : Entry) → IsPrintableEntry x → Means (entry_text x) (Ok (meaning x))
 entry_means (inl l) is =
     line_means (line_name l) (line_arguments l) (Transform (untexted l)) (arguments_fine l is)
     (ap (λ o. fitting o (plugin_of (line_name l) (line_arguments l))) (transform_again l is))
@@ -248,7 +248,7 @@ all_text [] are = tt
 all_text (x ∷ xs) are = (entry_is_text x are.0, all_text xs are.1)
 
 all_mean : (xs : List Entry) → AllByRecursion IsPrintableEntry xs
-    → AllZip (λ l m. Means all_names l (Ok m)) (map entry_text xs) (map meaning xs)
+    → AllZip (λ l m. Means l (Ok m)) (map entry_text xs) (map meaning xs)
 all_mean [] are = tt
 all_mean (x ∷ xs) are = (entry_means x are.0, all_mean xs are.1)
 
@@ -281,7 +281,7 @@ entries_meant (l ∷ ls) ps =
 
 printed_again : (ls : ConfigLines) → AllByRecursion IsPrintable ls.transforms
     → AllByRecursion IsPrintablePlugin ls.plugins → AreFew (untexted_lines ls)
-    → IsConfiguration all_names (printed ls) (untexted_lines ls)
+    → IsConfiguration (printed ls) (untexted_lines ls)
 printed_again ls are plugins few =
     let xs : List Entry = entries ls.transforms ls.plugins in
     let fine : AllByRecursion IsPrintableEntry xs =
@@ -292,14 +292,14 @@ printed_again ls are plugins few =
     ∙ lines_again entry_text xs (all_text xs fine) in
     record {
       es = map meaning xs;
-      read = subst (λ lines. AreRead all_names lines (map meaning xs)) (sym cut)
+      read = subst (λ lines. AreRead lines (map meaning xs)) (sym cut)
           (record { each = all_mean xs fine; few = subst AreFew (sym meant) few });
       lines_are = sym meant;
     }
 
 -- lines that come from text are read back
 pub come_again : (ls : ConfigLines) → ComeFromText ls
-    → IsConfiguration all_names (printed ls) (untexted_lines ls)
+    → IsConfiguration (printed ls) (untexted_lines ls)
 come_again ls from =
     let (are, plugins) = come_printable ls from in
     printed_again ls are plugins (subst AreFew (sym from.read.lines_are) from.read.read.few)

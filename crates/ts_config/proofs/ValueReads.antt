@@ -10,13 +10,12 @@ use Rattle.ts_config.specs.declared.setup.ConfigKind.TheVariants as k
 use Rattle.ts_config.specs.declared.setup.ConfigRefusal.{ConfigRefusal}
 use Rattle.ts_config.specs.declared.setup.ConfigRefusal.TheVariants as c
 use Rattle.ts_config.specs.declared.setup.LineMeaning.{LineMeaning}
-use Rattle.ts_config.specs.declared.table.PluginName.{PluginName}
 use Rattle.ts_config.specs.Lines.{config_lines}
 use Rattle.ts_config.specs.Setup.{ConfigLines}
 use Rattle.ts_config.specs.Words.{is_blank, is_end, EndsWord, HasNoWord, BeginsWithWord, IsWords}
 use Rattle.ts_config.specs.Reading.{is_text, Means, MeansByWords, lines_in, with_line, has_room, AreFew, AreRead, Breaks, IsFault, IsConfiguration, RefusesRightly}
 use Rattle.ts_config.specs.Scanning.{AreWords}
-use Rattle.ts_config.specs.Value.{Front, nothing, word, unclosed, is_plain_byte, is_quotable_byte, quoted, front_of_text, front_of, words_behind, words_below, words_in, meaning_of_words, meaning_of, Reading, Good, Bad, next_lines, read_lines, reading_of, IsReading, IsConfigRefusal}
+use Rattle.ts_config.specs.Value.{Front, nothing, word, unclosed, is_plain_byte, is_quotable_byte, quoted, front_of_text, front_of, words_behind, words_below, words_in, meaning_of_words, meaning_of, Reading, Good, Bad, next_lines, read_lines, config_of, IsReading, IsConfigRefusal}
 use Rattle.ts_config.proofs.Fronts.{never_closed, closed_within, closed_word, end-found, spelled-found, plain-found, no_words}
 use Rattle.ts_config.proofs.LinesSoFar.{each_more, few_more, lines_in-more, no_lines_few}
 use Rattle.ts_config.proofs.OneReading.{one_reading, read_or_fault, one_fault}
@@ -101,117 +100,116 @@ words_right (suc n) line short =
         more w rest is (words_below n rest) (shorter rest (omega (arith, rest_shorter line w rest is)))
     by_front shorter unclosed is = is
 
-module _ (names : List PluginName) where
-  -- a line means its value
-  meaning_right : (line : List ℕ) → Means names line (meaning_of names line)
-  meaning_right line =
-      split (is_text line) (λ t. MatchBool t (MeansByWords names line
-      (cond t (meaning_of_words names (words_in line)) (Err k.Text)))
-      (cond t (meaning_of_words names (words_in line)) (Err k.Text) ≡ Err k.Text))
-      (λ text. by_words (words_in line) (words_right (suc (length line)) line (omega arith)))
-      (λ other. refl)
-    where
-      by_words : (found : Option (List (List ℕ))) → AreWords line found
-          → MeansByWords names line (meaning_of_words names found)
-      by_words (Some words) are = inl (words, are, refl)
-      by_words None unfit = inr (unfit, refl)
+-- a line means its value
+meaning_right : (line : List ℕ) → Means line (meaning_of line)
+meaning_right line =
+    split (is_text line) (λ t. MatchBool t (MeansByWords line
+    (cond t (meaning_of_words (words_in line)) (Err k.Text)))
+    (cond t (meaning_of_words (words_in line)) (Err k.Text) ≡ Err k.Text))
+    (λ text. by_words (words_in line) (words_right (suc (length line)) line (omega arith)))
+    (λ other. refl)
+  where
+    by_words : (found : Option (List (List ℕ))) → AreWords line found
+        → MeansByWords line (meaning_of_words found)
+    by_words (Some words) are = inl (words, are, refl)
+    by_words None unfit = inr (unfit, refl)
 
-  -- lines behind those that were read
-  abbrev AreSo : List (List ℕ) → Reading → Type 0
-  AreSo lines (Good ls) = (es : List LineMeaning) × AreRead names lines es × (ls ≡ lines_in es)
-  AreSo lines (Bad n kind) = IsFault names lines n kind
+-- lines behind those that were read
+abbrev AreSo : List (List ℕ) → Reading → Type 0
+AreSo lines (Good ls) = (es : List LineMeaning) × AreRead lines es × (ls ≡ lines_in es)
+AreSo lines (Bad n kind) = IsFault lines n kind
 
-  lines_right : (lines before : List (List ℕ)) (es : List LineMeaning) (n : ℕ) → AreRead names before es
-      → n ≡ length before
-      → AreSo (before ++ lines) (read_lines names lines n (lines_in es))
-  lines_right [] before es n read is =
-      (es, subst (λ ls. AreRead names ls es) (sym (append-nil before)) read, refl)
-  lines_right (line ∷ lines) before es n read is =
-      by_meaning (λ first fs m fine number. lines_right lines first fs m fine number) (meaning_of names line)
-      (meaning_right line)
-    where
-      fault : (kind : ConfigKind) → Breaks names (lines_in es) line kind
-          → IsFault names (before ++ line ∷ lines) (n + 1) kind
-      fault kind breaks = record {
-        before = before;
-        line = line;
-        after = lines;
-        es = es;
-        lines_are = refl;
-        number = ap (λ m. m + 1) is;
-        fine = read;
-        breaks = breaks;
-      }
+lines_right : (lines before : List (List ℕ)) (es : List LineMeaning) (n : ℕ) → AreRead before es
+    → n ≡ length before
+    → AreSo (before ++ lines) (read_lines lines n (lines_in es))
+lines_right [] before es n read is =
+    (es, subst (λ ls. AreRead ls es) (sym (append-nil before)) read, refl)
+lines_right (line ∷ lines) before es n read is =
+    by_meaning (λ first fs m fine number. lines_right lines first fs m fine number) (meaning_of line)
+    (meaning_right line)
+  where
+    fault : (kind : ConfigKind) → Breaks (lines_in es) line kind
+        → IsFault (before ++ line ∷ lines) (n + 1) kind
+    fault kind breaks = record {
+      before = before;
+      line = line;
+      after = lines;
+      es = es;
+      lines_are = refl;
+      number = ap (λ m. m + 1) is;
+      fine = read;
+      breaks = breaks;
+    }
 
-      go_on : ((first : List (List ℕ)) (fs : List LineMeaning) (m : ℕ) → AreRead names first fs
-          → m ≡ length first
-          → AreSo (first ++ lines) (read_lines names lines m (lines_in fs)))
-          → (e : LineMeaning) → Means names line (Ok e) → has_room (lines_in es) e ≡ true
-          → AreSo (before ++ line ∷ lines) (read_lines names lines (n + 1) (with_line (lines_in es) e))
-      go_on others e means room =
-          let now : AreRead names (before ++ line ∷ []) (es ++ e ∷ []) = record {
-            each = each_more names before es line e read.each means;
-            few = subst AreFew (sym (lines_in-more es e)) (few_more (lines_in es) e read.few room);
-          } in
-          let rest : AreSo ((before ++ line ∷ []) ++ lines)
-          (read_lines names lines (n + 1) (lines_in (es ++ e ∷ []))) =
-          others (before ++ line ∷ []) (es ++ e ∷ []) (n + 1) now
-          (omega (arith, is, length-append before (line ∷ []))) in
-          subst (λ ls. AreSo ls (read_lines names lines (n + 1) (with_line (lines_in es) e)))
-          (append_assoc before (line ∷ []) lines)
-          (subst (λ ls. AreSo ((before ++ line ∷ []) ++ lines) (read_lines names lines (n + 1) ls))
-          (lines_in-more es e) rest)
+    go_on : ((first : List (List ℕ)) (fs : List LineMeaning) (m : ℕ) → AreRead first fs
+        → m ≡ length first
+        → AreSo (first ++ lines) (read_lines lines m (lines_in fs)))
+        → (e : LineMeaning) → Means line (Ok e) → has_room (lines_in es) e ≡ true
+        → AreSo (before ++ line ∷ lines) (read_lines lines (n + 1) (with_line (lines_in es) e))
+    go_on others e means room =
+        let now : AreRead (before ++ line ∷ []) (es ++ e ∷ []) = record {
+          each = each_more before es line e read.each means;
+          few = subst AreFew (sym (lines_in-more es e)) (few_more (lines_in es) e read.few room);
+        } in
+        let rest : AreSo ((before ++ line ∷ []) ++ lines)
+        (read_lines lines (n + 1) (lines_in (es ++ e ∷ []))) =
+        others (before ++ line ∷ []) (es ++ e ∷ []) (n + 1) now
+        (omega (arith, is, length-append before (line ∷ []))) in
+        subst (λ ls. AreSo ls (read_lines lines (n + 1) (with_line (lines_in es) e)))
+        (append_assoc before (line ∷ []) lines)
+        (subst (λ ls. AreSo ((before ++ line ∷ []) ++ lines) (read_lines lines (n + 1) ls))
+        (lines_in-more es e) rest)
 
-      by_meaning : ((first : List (List ℕ)) (fs : List LineMeaning) (m : ℕ) → AreRead names first fs
-          → m ≡ length first
-          → AreSo (first ++ lines) (read_lines names lines m (lines_in fs)))
-          → (meaning : Result LineMeaning ConfigKind) → Means names line meaning
-          → AreSo (before ++ line ∷ lines) (next_lines meaning (n + 1) (lines_in es)
-          (read_lines names lines (n + 1)))
-      by_meaning others (Err kind) means = fault kind (inl means)
-      by_meaning others (Ok e) means =
-          split (has_room (lines_in es) e)
-          (λ t. AreSo (before ++ line ∷ lines) (cond t
-          (read_lines names lines (n + 1) (with_line (lines_in es) e)) (Bad (n + 1) k.TooMany)))
-          (λ room. go_on others e means room)
-          (λ full. fault k.TooMany (inr (e, means, full, refl)))
+    by_meaning : ((first : List (List ℕ)) (fs : List LineMeaning) (m : ℕ) → AreRead first fs
+        → m ≡ length first
+        → AreSo (first ++ lines) (read_lines lines m (lines_in fs)))
+        → (meaning : Result LineMeaning ConfigKind) → Means line meaning
+        → AreSo (before ++ line ∷ lines) (next_lines meaning (n + 1) (lines_in es)
+        (read_lines lines (n + 1)))
+    by_meaning others (Err kind) means = fault kind (inl means)
+    by_meaning others (Ok e) means =
+        split (has_room (lines_in es) e)
+        (λ t. AreSo (before ++ line ∷ lines) (cond t
+        (read_lines lines (n + 1) (with_line (lines_in es) e)) (Bad (n + 1) k.TooMany)))
+        (λ room. go_on others e means room)
+        (λ full. fault k.TooMany (inr (e, means, full, refl)))
 
-  -- the function gives the reading
-  config_right : (bytes : List ℕ) → IsReading names bytes (reading_of names bytes)
-  config_right bytes = by_reading (reading_of names bytes)
-      (lines_right (config_lines bytes) [] [] 0 (record { each = tt; few = no_lines_few }) refl)
-    where
-      by_reading : (reading : Reading) → AreSo (config_lines bytes) reading → IsReading names bytes reading
-      by_reading (Good ls) so = record { es = so.0; read = so.1; lines_are = so.2 }
-      by_reading (Bad n kind) so = so
+-- the function gives the reading
+config_right : (bytes : List ℕ) → IsReading bytes (config_of bytes)
+config_right bytes = by_reading (config_of bytes)
+    (lines_right (config_lines bytes) [] [] 0 (record { each = tt; few = no_lines_few }) refl)
+  where
+    by_reading : (reading : Reading) → AreSo (config_lines bytes) reading → IsReading bytes reading
+    by_reading (Good ls) so = record { es = so.0; read = so.1; lines_are = so.2 }
+    by_reading (Bad n kind) so = so
 
-  -- and there is no other
-  same_reading : (bytes : List ℕ) (a b : Reading) → IsReading names bytes a → IsReading names bytes b → a ≡ b
-  same_reading bytes (Good ts) (Good us) first second =
-      ap Good (one_reading names bytes ts us first second)
-  same_reading bytes (Good ts) (Bad n kind) first second =
-      absurd (read_or_fault names (config_lines bytes) first.es n kind first.read second)
-  same_reading bytes (Bad n kind) (Good ts) first second =
-      absurd (read_or_fault names (config_lines bytes) second.es n kind second.read first)
-  same_reading bytes (Bad m a) (Bad n b) first second =
-      let same = one_fault names (config_lines bytes) m n a b first second in
-      ap (λ x. Bad x a) same.0 ∙ ap (Bad n) same.1
+-- and there is no other
+same_reading : (bytes : List ℕ) (a b : Reading) → IsReading bytes a → IsReading bytes b → a ≡ b
+same_reading bytes (Good ts) (Good us) first second =
+    ap Good (one_reading bytes ts us first second)
+same_reading bytes (Good ts) (Bad n kind) first second =
+    absurd (read_or_fault (config_lines bytes) first.es n kind first.read second)
+same_reading bytes (Bad n kind) (Good ts) first second =
+    absurd (read_or_fault (config_lines bytes) second.es n kind second.read first)
+same_reading bytes (Bad m a) (Bad n b) first second =
+    let same = one_fault (config_lines bytes) m n a b first second in
+    ap (λ x. Bad x a) same.0 ∙ ap (Bad n) same.1
 
-  pub reading_is : (bytes : List ℕ) (reading : Reading)
-      → IsReading names bytes reading ↔ (reading_of names bytes ≡ reading)
-  reading_is bytes reading = (
-    (λ is. same_reading bytes (reading_of names bytes) reading (config_right bytes) is),
-    (λ is. subst (IsReading names bytes) is (config_right bytes)),
-  )
+pub reading_is : (bytes : List ℕ) (reading : Reading)
+    → IsReading bytes reading ↔ (config_of bytes ≡ reading)
+reading_is bytes reading = (
+  (λ is. same_reading bytes (config_of bytes) reading (config_right bytes) is),
+  (λ is. subst (IsReading bytes) is (config_right bytes)),
+)
 
-  pub read_value : (bytes : List ℕ) (lines : ConfigLines) → IsConfiguration names bytes lines
-      → reading_of names bytes ≡ Good lines
-  read_value bytes lines read =
-      same_reading bytes (reading_of names bytes) (Good lines) (config_right bytes) read
+pub read_value : (bytes : List ℕ) (lines : ConfigLines) → IsConfiguration bytes lines
+    → config_of bytes ≡ Good lines
+read_value bytes lines read =
+    same_reading bytes (config_of bytes) (Good lines) (config_right bytes) read
 
-  pub refusal_value : (bytes : List ℕ) (refusal : ConfigRefusal)
-      → RefusesRightly names (config_lines bytes) refusal
-      → IsConfigRefusal (reading_of names bytes) refusal
-  refusal_value bytes (c.Fault f) rightly =
-      same_reading bytes (reading_of names bytes) (Bad f.line f.kind) (config_right bytes) rightly
-  refusal_value bytes c.NoMemory rightly = tt
+pub refusal_value : (bytes : List ℕ) (refusal : ConfigRefusal)
+    → RefusesRightly (config_lines bytes) refusal
+    → IsConfigRefusal (config_of bytes) refusal
+refusal_value bytes (c.Fault f) rightly =
+    same_reading bytes (config_of bytes) (Bad f.line f.kind) (config_right bytes) rightly
+refusal_value bytes c.NoMemory rightly = tt

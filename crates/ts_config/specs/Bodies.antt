@@ -1,6 +1,5 @@
 -- What the lines of a configuration make of a body (the Developer's Guide, "Transformations"). Which lines
--- act on a
--- response is not said here.
+-- act on a response is not said here.
 use Rattle.std.specs.Prelude.{ℕ, ◌==◌, not, List, [], ◌∷◌, ◌++◌, map, filter, if◌then◌else◌}
 use Rattle.ts_config.specs.declared.setup.TransformLine.{TransformLine}
 use Rattle.ts_config.specs.declared.setup.TransformLine.TheVariants as t

@@ -1,6 +1,5 @@
 -- The lines of a configuration: each ends with a line feed, which the last may lack; a last line without any
--- byte is
--- no line; one carriage return at the end of a line is not part of it.
+-- byte is no line; one carriage return at the end of a line is not part of it.
 use Rattle.std.specs.Prelude.{ℕ, ◌==◌, List, [], ◌∷◌, map}
 use Rattle.std.specs.List.{slice_split}
 use Rattle.std.specs.Str.Lines.{strip_carriage_return}

@@ -1,6 +1,5 @@
 -- The grammar of a configuration: what each line means by itself, and what they mean together. (plugin.config
--- and its lines are the Developer's Guide's; the names, words and limits are this project's own.) The lines
--- are read where there are these plugins, `names`: those of transform lines alone, or all.
+-- and its lines are the Developer's Guide's; the names, words and limits are this project's own.)
 use Rattle.std.specs.Prelude.{◌≡◌, ℕ, ◌==◌, ◌+◌, ◌≤◌, ◌⊎◌, ◌&&◌, ◌||◌, not, Bool, true, false, nat_le, nat_lt, List, [], ◌∷◌, ◌++◌, length, Result, Ok, Err, MatchBool, ⊤}
 use Rattle.std.specs.List.{list_all, AllZip}
 use Rattle.std.specs.Str.{is_utf8}
@@ -12,12 +11,11 @@ use Rattle.ts_config.specs.declared.setup.LineMeaning.{LineMeaning}
 use Rattle.ts_config.specs.declared.setup.LineMeaning.TheVariants.{Empty, Transform, Plugin}
 use Rattle.ts_config.specs.declared.setup.ConfigRefusal.{ConfigRefusal}
 use Rattle.ts_config.specs.declared.setup.ConfigRefusal.TheVariants as c
-use Rattle.ts_config.specs.declared.table.PluginName.{PluginName}
 use Rattle.ts_config.specs.Bytes.{delete, most_plugins, most_transforms, space, tab}
 use Rattle.ts_config.specs.Lines.{config_lines}
 use Rattle.ts_config.specs.Setup.{ConfigLines, untexted_lines}
 use Rattle.ts_config.specs.Words.{IsWords}
-use Rattle.ts_config.specs.Table.{all_names, line_entry}
+use Rattle.ts_config.specs.Table.{line_entry}
 
 -- a tab, or neither below a space nor the byte 127
 abbrev pub is_text_byte : ℕ → Bool
@@ -28,14 +26,14 @@ abbrev pub is_text : List ℕ → Bool
 is_text line = is_utf8 line && list_all is_text_byte line
 
 -- what a line of text means by its words; where it has none because a quote does not fit, it breaks that rule
-abbrev pub MeansByWords : List PluginName → List ℕ → Result LineMeaning ConfigKind → Type 0
-MeansByWords names line meaning =
-    ((words : List (List ℕ)) × IsWords line words × (meaning ≡ line_entry names words))
+abbrev pub MeansByWords : List ℕ → Result LineMeaning ConfigKind → Type 0
+MeansByWords line meaning =
+    ((words : List (List ℕ)) × IsWords line words × (meaning ≡ line_entry words))
     ⊎ (((words : List (List ℕ)) → ¬ IsWords line words) × (meaning ≡ Err k.Quote))
 
 -- what a line means by itself, or the first rule that it breaks
-abbrev pub Means : List PluginName → List ℕ → Result LineMeaning ConfigKind → Type 0
-Means names line meaning = MatchBool (is_text line) (MeansByWords names line meaning) (meaning ≡ Err k.Text)
+abbrev pub Means : List ℕ → Result LineMeaning ConfigKind → Type 0
+Means line meaning = MatchBool (is_text line) (MeansByWords line meaning) (meaning ≡ Err k.Text)
 
 -- the transform that a line asks for, if it does
 abbrev pub transform_in : LineMeaning → List TransformLine
@@ -78,40 +76,39 @@ has_room ls (Plugin p) = nat_lt (length ls.plugins) most_plugins
 has_room ls Empty = true
 
 -- each line is in the grammar, the lines mean these, and there are not too many
-pub record AreRead (names : List PluginName) (lines : List (List ℕ)) (es : List LineMeaning) : Type 0 where
-  pub each : AllZip (λ line e. Means names line (Ok e)) lines es
+pub record AreRead (lines : List (List ℕ)) (es : List LineMeaning) : Type 0 where
+  pub each : AllZip (λ line e. Means line (Ok e)) lines es
   pub few : AreFew (lines_in es)
 
 -- behind these lines the line breaks a rule of its own, or is one too many
-abbrev pub Breaks : List PluginName → ConfigLines → List ℕ → ConfigKind → Type 0
-Breaks names so_far line kind =
-    Means names line (Err kind)
-    ⊎ ((e : LineMeaning) × Means names line (Ok e) × (has_room so_far e ≡ false) × (kind ≡ k.TooMany))
+abbrev pub Breaks : ConfigLines → List ℕ → ConfigKind → Type 0
+Breaks so_far line kind =
+    Means line (Err kind)
+    ⊎ ((e : LineMeaning) × Means line (Ok e) × (has_room so_far e ≡ false) × (kind ≡ k.TooMany))
 
 -- the n-th line, counted from 1, is the first that is not in the grammar, and this is the rule that it breaks
-pub record IsFault (names : List PluginName) (lines : List (List ℕ)) (n : ℕ) (kind : ConfigKind)
-    : Type 0 where
+pub record IsFault (lines : List (List ℕ)) (n : ℕ) (kind : ConfigKind) : Type 0 where
   pub before : List (List ℕ)
   pub line : List ℕ
   pub after : List (List ℕ)
   pub es : List LineMeaning
   pub lines_are : lines ≡ before ++ line ∷ after
   pub number : n ≡ length before + 1
-  pub fine : AreRead names before es
-  pub breaks : Breaks names (lines_in es) line kind
+  pub fine : AreRead before es
+  pub breaks : Breaks (lines_in es) line kind
 
 -- want of memory says nothing of the lines
-abbrev pub RefusesRightly : List PluginName → List (List ℕ) → ConfigRefusal → Type 0
-RefusesRightly names lines c.NoMemory = ⊤
-RefusesRightly names lines (c.Fault f) = IsFault names lines f.line f.kind
+abbrev pub RefusesRightly : List (List ℕ) → ConfigRefusal → Type 0
+RefusesRightly lines c.NoMemory = ⊤
+RefusesRightly lines (c.Fault f) = IsFault lines f.line f.kind
 
 -- the bytes are a configuration, and these are its lines
-pub record IsConfiguration (names : List PluginName) (bytes : List ℕ) (lines : ConfigLines) : Type 0 where
+pub record IsConfiguration (bytes : List ℕ) (lines : ConfigLines) : Type 0 where
   pub es : List LineMeaning
-  pub read : AreRead names (config_lines bytes) es
+  pub read : AreRead (config_lines bytes) es
   pub lines_are : lines ≡ lines_in es
 
 -- the lines are those of some configuration, but for the texts of files
 pub record ComeFromText (lines : ConfigLines) : Type 0 where
   pub bytes : List ℕ
-  pub read : IsConfiguration all_names bytes (untexted_lines lines)
+  pub read : IsConfiguration bytes (untexted_lines lines)

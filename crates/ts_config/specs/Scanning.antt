@@ -6,7 +6,6 @@ use Rattle.ts_config.specs.declared.setup.ConfigRefusal.TheVariants as c
 use Rattle.ts_config.specs.declared.setup.LineMeaning.{LineMeaning}
 use Rattle.ts_config.specs.declared.read.LineRefusal.{LineRefusal}
 use Rattle.ts_config.specs.declared.read.LineRefusal.TheVariants as r
-use Rattle.ts_config.specs.declared.table.PluginName.{PluginName}
 use Rattle.ts_config.specs.declared.words.NextWord.{NextWord}
 use Rattle.ts_config.specs.declared.words.NextWord.TheVariants.{Nothing, Word, Unclosed}
 use Rattle.ts_config.specs.Bytes.{quote_mark}
@@ -43,21 +42,21 @@ AnswersAsRead (Ok x) read = read ≡ Ok x
 AnswersAsRead (Err e) read = Refuses e read
 
 -- the line means what was answered, unless memory lacked
-abbrev pub MeansUnlessMemory : List PluginName → List ℕ → Result LineMeaning LineRefusal → Type 0
-MeansUnlessMemory names line (Ok e) = Means names line (Ok e)
-MeansUnlessMemory names line (Err r.NoMemory) = ⊤
-MeansUnlessMemory names line (Err (r.Kind kind)) = Means names line (Err kind)
+abbrev pub MeansUnlessMemory : List ℕ → Result LineMeaning LineRefusal → Type 0
+MeansUnlessMemory line (Ok e) = Means line (Ok e)
+MeansUnlessMemory line (Err r.NoMemory) = ⊤
+MeansUnlessMemory line (Err (r.Kind kind)) = Means line (Err kind)
 
 -- a line is added to those before it by what it means
-pub record Adds (names : List PluginName) (line : List ℕ) (old new : ConfigLines) : Type 0 where
+pub record Adds (line : List ℕ) (old new : ConfigLines) : Type 0 where
   pub e : LineMeaning
-  pub means : Means names line (Ok e)
+  pub means : Means line (Ok e)
   pub new_is : new ≡ with_line old e
 
 -- the line breaks this rule behind these lines, unless memory lacked
-abbrev pub BreaksUnlessMemory : List PluginName → ConfigLines → List ℕ → LineRefusal → Type 0
-BreaksUnlessMemory names so_far line r.NoMemory = ⊤
-BreaksUnlessMemory names so_far line (r.Kind kind) = Breaks names so_far line kind
+abbrev pub BreaksUnlessMemory : ConfigLines → List ℕ → LineRefusal → Type 0
+BreaksUnlessMemory so_far line r.NoMemory = ⊤
+BreaksUnlessMemory so_far line (r.Kind kind) = Breaks so_far line kind
 
 -- the refusal of a line, at its number
 abbrev pub refusal_at : ℕ → LineRefusal → ConfigRefusal

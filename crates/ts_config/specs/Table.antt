@@ -27,18 +27,14 @@ spelling n.Delay = codes "delay.so"
 spelling n.Deny = codes "denylist.so"
 spelling n.Header = codes "header.so"
 
--- the plugins of transform lines
-abbrev pub transform_names : List PluginName
-transform_names = n.Null ∷ n.Append ∷ n.Bnull ∷ n.Prepend ∷ n.Map ∷ n.Drop ∷ n.Delay ∷ []
-
 -- all plugins: those of transform lines, and those that are called at hooks
 abbrev pub all_names : List PluginName
 all_names =
     n.Null ∷ n.Append ∷ n.Bnull ∷ n.Prepend ∷ n.Map ∷ n.Drop ∷ n.Delay ∷ n.Deny ∷ n.Header ∷ []
 
--- the plugin that a word names, of those that there are
-abbrev pub name_of : List PluginName → List ℕ → Option PluginName
-name_of names word = find (λ n. bytes_eq (spelling n) word) names
+-- the plugin that a word names
+abbrev pub name_of : List ℕ → Option PluginName
+name_of word = find (λ n. bytes_eq (spelling n) word) all_names
 
 -- the transform that a name and the words after it ask for, if they fit
 abbrev pub transform_of : PluginName → List (List ℕ) → Option TransformLine
@@ -69,8 +65,7 @@ abbrev pub named_entry : Option PluginName → List (List ℕ) → Result LineMe
 named_entry (Some name) words = fitting (transform_of name words) (plugin_of name words)
 named_entry None words = Err k.Plugin
 
--- what the words of a line mean, or the first rule that they break, where there are these plugins; a line
--- without a word means nothing
-abbrev pub line_entry : List PluginName → List (List ℕ) → Result LineMeaning ConfigKind
-line_entry names [] = Ok Empty
-line_entry names (word ∷ words) = named_entry (name_of names word) words
+-- what the words of a line mean, or the first rule that they break; a line without a word means nothing
+abbrev pub line_entry : List (List ℕ) → Result LineMeaning ConfigKind
+line_entry [] = Ok Empty
+line_entry (word ∷ words) = named_entry (name_of word) words

@@ -8,12 +8,11 @@ use Rattle.ts_config.specs.declared.setup.ConfigKind.TheVariants as k
 use Rattle.ts_config.specs.declared.setup.LineMeaning.{LineMeaning}
 use Rattle.ts_config.specs.declared.setup.ConfigRefusal.{ConfigRefusal}
 use Rattle.ts_config.specs.declared.setup.ConfigRefusal.TheVariants as c
-use Rattle.ts_config.specs.declared.table.PluginName.{PluginName}
 use Rattle.ts_config.specs.Bytes.{number_sign, quote_mark}
 use Rattle.ts_config.specs.Lines.{config_lines}
 use Rattle.ts_config.specs.Words.{is_blank, is_end}
 use Rattle.ts_config.specs.Setup.{ConfigLines, transforms_alone}
-use Rattle.ts_config.specs.Table.{all_names, line_entry, transform_names}
+use Rattle.ts_config.specs.Table.{line_entry}
 use Rattle.ts_config.specs.Reading.{is_text, has_room, with_line, IsConfiguration, IsFault}
 
 -- what a line begins with: no word, a word and the rest, or a quote that fits no word
@@ -70,13 +69,13 @@ abbrev pub words_in : List ℕ → Option (List (List ℕ))
 words_in line = words_below (suc (length line)) line
 
 -- what these words mean, or that a quote does not fit
-abbrev pub meaning_of_words : List PluginName → Option (List (List ℕ)) → Result LineMeaning ConfigKind
-meaning_of_words names (Some words) = line_entry names words
-meaning_of_words names None = Err k.Quote
+abbrev pub meaning_of_words : Option (List (List ℕ)) → Result LineMeaning ConfigKind
+meaning_of_words (Some words) = line_entry words
+meaning_of_words None = Err k.Quote
 
 -- what a line means by itself, or the first rule that it breaks
-abbrev pub meaning_of : List PluginName → List ℕ → Result LineMeaning ConfigKind
-meaning_of names line = if is_text line then meaning_of_words names (words_in line) else Err k.Text
+abbrev pub meaning_of : List ℕ → Result LineMeaning ConfigKind
+meaning_of line = if is_text line then meaning_of_words (words_in line) else Err k.Text
 
 -- the lines of a configuration, or the number of the first line that is not in the grammar, counted from 1,
 -- and the first rule that it breaks
@@ -91,31 +90,23 @@ next_lines (Ok e) n so_far next =
     if has_room so_far e then next (with_line so_far e) else Bad n k.TooMany
 
 -- the reading of lines behind n others, which were these
-abbrev pub read_lines : List PluginName → List (List ℕ) → ℕ → ConfigLines → Reading
-read_lines names [] n so_far = Good so_far
-read_lines names (line ∷ lines) n so_far =
-    next_lines (meaning_of names line) (n + 1) so_far (read_lines names lines (n + 1))
+abbrev pub read_lines : List (List ℕ) → ℕ → ConfigLines → Reading
+read_lines [] n so_far = Good so_far
+read_lines (line ∷ lines) n so_far =
+    next_lines (meaning_of line) (n + 1) so_far (read_lines lines (n + 1))
 
 -- no lines
 abbrev pub no_lines : ConfigLines
 no_lines = transforms_alone []
 
--- the reading of a configuration where there are these plugins
-abbrev pub reading_of : List PluginName → List ℕ → Reading
-reading_of names bytes = read_lines names (config_lines bytes) 0 no_lines
-
--- the reading of a configuration of transform lines, in which the name of a hook plugin is none
+-- the reading of a configuration
 abbrev pub config_of : List ℕ → Reading
-config_of bytes = reading_of transform_names bytes
-
--- the reading of a configuration of any lines
-abbrev pub setup_of : List ℕ → Reading
-setup_of bytes = reading_of all_names bytes
+config_of bytes = read_lines (config_lines bytes) 0 no_lines
 
 -- the reading by the grammar
-abbrev pub IsReading : List PluginName → List ℕ → Reading → Type 0
-IsReading names bytes (Good lines) = IsConfiguration names bytes lines
-IsReading names bytes (Bad n kind) = IsFault names (config_lines bytes) n kind
+abbrev pub IsReading : List ℕ → Reading → Type 0
+IsReading bytes (Good lines) = IsConfiguration bytes lines
+IsReading bytes (Bad n kind) = IsFault (config_lines bytes) n kind
 
 -- a refusal is what was read, and want of memory says nothing
 abbrev pub IsConfigRefusal : Reading → ConfigRefusal → Type 0

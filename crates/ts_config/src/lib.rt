@@ -17,5 +17,5 @@ mod words;
 pub use fields::{PluginLine, Rule, Side, Sites};
 pub use laws::one_reading;
 pub use print::print_config;
-pub use read::{read_config, read_setup};
+pub use read::read_config;
 pub use setup::{ConfigFault, ConfigKind, ConfigRefusal, Setup, TransformLine};

@@ -6,7 +6,6 @@ ghost use Rattle.ts_config.specs.Printing.{needs_quotes, spelled, spelled_words,
 ghost use Rattle.ts_config.specs.Reading.{IsConfiguration, ComeFromText};
 ghost use Rattle.ts_config.specs.Rules.{plugin_words, rule_words};
 ghost use Rattle.ts_config.specs.Setup.{lines_of, untexted_lines};
-ghost use Rattle.ts_config.specs.Table.{all_names};
 
 use crate::fields::{PluginLine, Rule};
 use crate::numerals::hex_digit;
@@ -188,7 +187,7 @@ pub fn print_config(alloc: Global, setup: &Setup) -> Result<Octets, NoMemory>
     requires { ComeFromText (lines_of setup.now) }
     ensures text { IfOk result (λ o. o ≡ printed (lines_of setup.now)) }
     // It is read back as the same lines.
-    ensures again { IfOk result (λ o. IsConfiguration all_names o (untexted_lines (lines_of setup.now))) }
+    ensures again { IfOk result (λ o. IsConfiguration o (untexted_lines (lines_of setup.now))) }
 {
     let mut out = Vec::new(alloc);
     print_lines(alloc, &mut out, setup.transforms.as_slice())?;

@@ -1,19 +1,18 @@
 //! A configuration is read line by line, up to the first line that is not in the grammar.
-ghost use Rattle.std.specs.Prelude.{◌≡◌, [], OnOk, IfOk, IfErr, All};
+ghost use Rattle.std.specs.Prelude.{◌≡◌, OnOk, IfOk, IfErr, All};
 ghost use Rattle.std.specs.List.{list_all};
 ghost use Rattle.std.specs.Str.{is_utf8};
 ghost use Rattle.ts_config.specs.Lines.{config_lines};
 ghost use Rattle.ts_config.specs.Reading.{is_text_byte, is_text, with_line, has_room, AreFew, RefusesRightly, IsConfiguration, ComeFromText};
 ghost use Rattle.ts_config.specs.Rules.{HasPlainRule};
-ghost use Rattle.ts_config.specs.Setup.{HasFileName, lines_of, transforms_alone};
-ghost use Rattle.ts_config.specs.Table.{all_names, transform_names};
-ghost use Rattle.ts_config.specs.Value.{Good, IsConfigRefusal, config_of, setup_of};
+ghost use Rattle.ts_config.specs.Setup.{HasFileName, lines_of};
+ghost use Rattle.ts_config.specs.Value.{Good, IsConfigRefusal, config_of};
 ghost use Rattle.ts_config.specs.Scanning.{Adds, MeansUnlessMemory, BreaksUnlessMemory, refusal_at};
 ghost use Rattle.ts_config.specs.declared.read.LineRefusal.TheVariants as r;
 
 use crate::lines::cut_line;
 use crate::setup::{ConfigFault, ConfigKind, ConfigRefusal, LineMeaning, Setup};
-use crate::table::{PluginName, all_names, entry_of, transform_names};
+use crate::table::entry_of;
 use crate::words::words_of;
 use std::alloc::{AllocFailed, Global};
 use ts_link::NoMemory;
@@ -78,18 +77,14 @@ fn is_text(line: &[u8]) -> bool
 }
 
 // What a line means by itself, or the first rule that it breaks.
-fn line_meaning(
-    alloc: Global,
-    names: &[PluginName],
-    line: &[u8],
-) -> Result<LineMeaning, LineRefusal>
-    ensures { MeansUnlessMemory names.now line.now result }
+fn line_meaning(alloc: Global, line: &[u8]) -> Result<LineMeaning, LineRefusal>
+    ensures { MeansUnlessMemory line.now result }
 {
     if !is_text(line) {
         return Err(LineRefusal::Kind(ConfigKind::Text));
     }
     match words_of(alloc, line)? {
-        Some(words) => entry_of(alloc, names, &words),
+        Some(words) => entry_of(alloc, &words),
         None => Err(LineRefusal::Kind(ConfigKind::Quote)),
     }
 }
@@ -124,18 +119,13 @@ fn put_line(setup: &mut Setup, meaning: LineMeaning) -> Result<(), LineRefusal>
 }
 
 // Adds what a line means to what the lines before it mean.
-fn add_line(
-    alloc: Global,
-    names: &[PluginName],
-    setup: &mut Setup,
-    line: &[u8],
-) -> Result<(), LineRefusal>
+fn add_line(alloc: Global, setup: &mut Setup, line: &[u8]) -> Result<(), LineRefusal>
     requires { AreFew (lines_of setup.old) }
-    ensures ok { OnOk result (Adds names.now line.now (lines_of setup.old) (lines_of setup.new)) }
+    ensures ok { OnOk result (Adds line.now (lines_of setup.old) (lines_of setup.new)) }
     ensures few { OnOk result (AreFew (lines_of setup.new)) }
-    ensures fault { IfErr result (BreaksUnlessMemory names.now (lines_of setup.old) line.now) }
+    ensures fault { IfErr result (BreaksUnlessMemory (lines_of setup.old) line.now) }
 {
-    let meaning = line_meaning(alloc, names, line)?;
+    let meaning = line_meaning(alloc, line)?;
     if !has_room(setup, &meaning) {
         return Err(LineRefusal::Kind(ConfigKind::TooMany));
     }
@@ -152,10 +142,19 @@ fn refusal_at(line: u64, refusal: LineRefusal) -> ConfigRefusal
     }
 }
 
-// What the configuration means where there are these plugins.
-fn read_lines(alloc: Global, names: &[PluginName], bytes: &[u8]) -> Result<Setup, ConfigRefusal>
-    ensures read { IfOk result (λ s. IsConfiguration names.now bytes.now (lines_of s)) }
-    ensures fault { IfErr result (RefusesRightly names.now (config_lines bytes.now)) }
+/// What a configuration means, its transform lines and those of hook plugins, with the texts of its files
+/// empty. A fault names the first line that is not in the grammar, counted from 1, and the first rule that it
+/// breaks, in the order of `ConfigKind`.
+pub fn read_config(alloc: Global, bytes: &[u8]) -> Result<Setup, ConfigRefusal>
+    ensures read { IfOk result (λ s. IsConfiguration bytes.now (lines_of s)) }
+    ensures value { IfOk result (λ s. config_of bytes.now ≡ Good (lines_of s)) }
+    ensures names { IfOk result (λ s. All HasFileName s.transforms.items) }
+    // No rule changes how long a message is, which host it is for, or whether the connection is kept.
+    ensures rules { IfOk result (λ s. All HasPlainRule s.plugins.items) }
+    // So it can be printed.
+    ensures printable { IfOk result (λ s. ComeFromText (lines_of s)) }
+    ensures fault { IfErr result (RefusesRightly (config_lines bytes.now)) }
+    ensures refusal { IfErr result (IsConfigRefusal (config_of bytes.now)) }
 {
     let transforms = Vec::new(alloc);
     let plugins = Vec::new(alloc);
@@ -168,43 +167,10 @@ fn read_lines(alloc: Global, names: &[PluginName], bytes: &[u8]) -> Result<Setup
     while !rest.is_empty() {
         let (line, behind) = cut_line(rest);
         line_number += 1;
-        match add_line(alloc, names, &mut setup, line) {
+        match add_line(alloc, &mut setup, line) {
             Ok(()) => rest = behind,
             Err(refusal) => return Err(refusal_at(line_number, refusal)),
         }
     }
     Ok(setup)
-}
-
-/// What a configuration of transform lines means, with the texts of its files empty. A fault names the first
-/// line that is not in the grammar, counted from 1, and the first rule that it breaks, in the order of
-/// `ConfigKind`; the line of a hook plugin breaks `Plugin`.
-pub fn read_config(alloc: Global, bytes: &[u8]) -> Result<Setup, ConfigRefusal>
-    ensures read { IfOk result (λ s. IsConfiguration transform_names bytes.now (lines_of s)) }
-    ensures plugins { IfOk result (λ s. s.plugins.items ≡ []) }
-    ensures value { IfOk result (λ s. config_of bytes.now ≡ Good (transforms_alone s.transforms.items)) }
-    ensures names { IfOk result (λ s. All HasFileName s.transforms.items) }
-    // So it can be printed.
-    ensures printable { IfOk result (λ s. ComeFromText (lines_of s)) }
-    ensures fault { IfErr result (RefusesRightly transform_names (config_lines bytes.now)) }
-    ensures refusal { IfErr result (IsConfigRefusal (config_of bytes.now)) }
-{
-    read_lines(alloc, transform_names(), bytes)
-}
-
-/// What a configuration means, the lines of hook plugins included, with the texts of its files empty. A fault
-/// names the first line that is not in the grammar, counted from 1, and the first rule that it breaks, in the
-/// order of `ConfigKind`.
-pub fn read_setup(alloc: Global, bytes: &[u8]) -> Result<Setup, ConfigRefusal>
-    ensures read { IfOk result (λ s. IsConfiguration all_names bytes.now (lines_of s)) }
-    ensures value { IfOk result (λ s. setup_of bytes.now ≡ Good (lines_of s)) }
-    ensures names { IfOk result (λ s. All HasFileName s.transforms.items) }
-    // No rule changes how long a message is, which host it is for, or whether the connection is kept.
-    ensures rules { IfOk result (λ s. All HasPlainRule s.plugins.items) }
-    // So it can be printed.
-    ensures printable { IfOk result (λ s. ComeFromText (lines_of s)) }
-    ensures fault { IfErr result (RefusesRightly all_names (config_lines bytes.now)) }
-    ensures refusal { IfErr result (IsConfigRefusal (setup_of bytes.now)) }
-{
-    read_lines(alloc, all_names(), bytes)
 }

@@ -1,7 +1,7 @@
 //! The table of plugins: the first word of a line, and what the words behind it mean.
 ghost use Rattle.std.specs.Prelude.{◌≡◌, ◌==◌, ℕ, List, length, map, Option, IfOk, if◌then◌else◌};
 ghost use Rattle.ts_config.specs.Scanning.{AnswersAsRead};
-ghost use Rattle.ts_config.specs.Table.{spelling, all_names, transform_names, name_of, transform_of, plugin_of, line_entry};
+ghost use Rattle.ts_config.specs.Table.{spelling, all_names, name_of, transform_of, plugin_of, line_entry};
 ghost use Rattle.ts_config.specs.declared.table.PluginName.TheVariants as n;
 
 use crate::fields::PluginLine;
@@ -26,16 +26,6 @@ pub enum PluginName {
     Header,
 }
 
-const TRANSFORM_NAMES: [PluginName; 7] = [
-    PluginName::Null,
-    PluginName::Append,
-    PluginName::Bnull,
-    PluginName::Prepend,
-    PluginName::Map,
-    PluginName::Drop,
-    PluginName::Delay,
-];
-
 const ALL_NAMES: [PluginName; 9] = [
     PluginName::Null,
     PluginName::Append,
@@ -48,15 +38,8 @@ const ALL_NAMES: [PluginName; 9] = [
     PluginName::Header,
 ];
 
-/// The plugins of transform lines.
-pub fn transform_names() -> &'static [PluginName]
-    ensures { result.now ≡ transform_names }
-{
-    &TRANSFORM_NAMES
-}
-
-/// All plugins: those of transform lines, and those that are called at hooks.
-pub fn all_names() -> &'static [PluginName]
+// All plugins: those of transform lines, and those that are called at hooks.
+fn all_names() -> &'static [PluginName]
     ensures { result.now ≡ all_names }
 {
     &ALL_NAMES
@@ -87,10 +70,11 @@ impl PluginName {
     }
 }
 
-// The plugin of these that the word names.
-fn name_of(names: &[PluginName], word: &[u8]) -> Option<PluginName>
-    ensures { result ≡ name_of names.now word.now }
+// The plugin that the word names.
+fn name_of(word: &[u8]) -> Option<PluginName>
+    ensures { result ≡ name_of word.now }
 {
+    let names = all_names();
     for name in names {
         if name.spelling() == word {
             return Some(*name);
@@ -215,18 +199,14 @@ fn plugin_of(
     }
 }
 
-/// What the words of a line mean where there are these plugins, or the first rule that they break.
-pub fn entry_of(
-    alloc: Global,
-    names: &[PluginName],
-    words: &[&[u8]],
-) -> Result<LineMeaning, LineRefusal>
-    ensures { AnswersAsRead result (line_entry names.now (map (λ w. w.now) words.now)) }
+/// What the words of a line mean, or the first rule that they break.
+pub fn entry_of(alloc: Global, words: &[&[u8]]) -> Result<LineMeaning, LineRefusal>
+    ensures { AnswersAsRead result (line_entry (map (λ w. w.now) words.now)) }
 {
     let [first, others @ ..] = words else {
         return Ok(LineMeaning::Empty);
     };
-    let Some(name) = name_of(names, first) else {
+    let Some(name) = name_of(first) else {
         return Err(LineRefusal::Kind(ConfigKind::Plugin));
     };
     if let Some(line) = transform_of(alloc, name, others)? {

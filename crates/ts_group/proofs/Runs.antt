@@ -14,7 +14,8 @@ use Rattle.ts_journal.proofs.Lawful.{replay-append}
 use Rattle.ts_journal.proofs.Extends.{extends_trans, extends_before}
 use Rattle.ts_group.specs.declared.group.TheConstants.{MOST_EVENTS}
 use Rattle.ts_group.specs.declared.group.Group.{Group}
-use Rattle.ts_group.specs.Context.{Context, IsSame, moment_after}
+use Rattle.ts_group.specs.Context.{Context, IsSame}
+use Rattle.ts_link.specs.Moments.{moment_after}
 use Rattle.ts_group.specs.Entries.{IsOwn, AllOwn, Grows, renewal}
 use Rattle.ts_group.specs.Changes.{StaysInTurn}
 use Rattle.ts_group.specs.Calls.{IsReady, IsRun, RunsFrom, HasRun, Handles, next_in}

@@ -1,5 +1,5 @@
 -- What a contract sees of a group's continuations.
-use Rattle.std.specs.Prelude.{⊤, ◌≡◌, ℕ, ◌+◌, ◌-◌, ◌<◌, ◌≤◌, ◌==◌, List, [], ◌∷◌, Option, Some, None, length, if◌then◌else◌, min, IsSome, unwrap_or}
+use Rattle.std.specs.Prelude.{⊤, ◌≡◌, ℕ, ◌+◌, ◌-◌, ◌<◌, ◌≤◌, ◌==◌, List, [], ◌∷◌, Option, Some, None, length, if◌then◌else◌, IsSome, unwrap_or}
 use Rattle.ts_journal.specs.declared.entry.TheConstants.{MOST_KEYS, GREATEST}
 use Rattle.ts_journal.specs.declared.entry.ContKey.{ContKey}
 use Rattle.ts_journal.specs.declared.entry.Pending.{Pending}
@@ -101,10 +101,6 @@ pub record IsSame (old new : Context) : Type 0 where
   pub role : new.role ≡ old.role
   pub news_from : new.news_from ≡ old.news_from
   pub calls : new.calls ≡ old.calls
-
--- a moment so much later; it stays at the last moment that a number can say
-abbrev pub moment_after : ℕ → ℕ → ℕ
-moment_after moment pause = min (moment + pause) GREATEST
 
 -- an index is not live, and its generation can still rise
 abbrev pub CanUse : State → ℕ → Type 0

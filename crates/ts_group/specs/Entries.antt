@@ -9,7 +9,8 @@ use Rattle.ts_journal.specs.declared.entry.Entry.{Entry}
 use Rattle.ts_journal.specs.declared.entry.Entry.TheVariants.{Took, Gave, Set, Handled, Dropped}
 use Rattle.ts_journal.specs.State.{State, IsLive}
 use Rattle.ts_journal.specs.Log.{Log, Extends}
-use Rattle.ts_group.specs.Context.{Context, moment_after, needed, own_key}
+use Rattle.ts_group.specs.Context.{Context, needed, own_key}
+use Rattle.ts_link.specs.Moments.{moment_after}
 
 -- the entries that drop these events
 abbrev pub drops : List ℕ → List Entry

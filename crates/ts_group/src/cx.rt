@@ -4,7 +4,8 @@ ghost use Rattle.std.specs.Prelude.{◌≡◌, ◌≢◌, ◌↔◌, ◌+◌, �
 ghost use Rattle.ts_journal.specs.declared.entry.Event.TheVariants as Event;
 ghost use Rattle.ts_journal.specs.State.{pending_at, first_in_series};
 ghost use Rattle.ts_journal.specs.Machine.{IsKnown};
-ghost use Rattle.ts_group.specs.Context.{IsFresh, IsOrderly, IsSame, HasSpare, own_key, role_at, moment_after};
+ghost use Rattle.ts_group.specs.Context.{IsFresh, IsOrderly, IsSame, HasSpare, own_key, role_at};
+ghost use Rattle.ts_link.specs.Moments.{moment_after};
 ghost use Rattle.ts_group.specs.Entries.{Grows, CanBeAsked};
 ghost use Rattle.ts_group.specs.Acts.{Sets, Queues, Cancels, Makes, Destroys, BeginsTurn, GivesTurn, KeepsRoles, RunsNow, AsksOwn, EntersEvent, EntersQuestion};
 ghost use Rattle.ts_group.specs.Calls.{IsReady, next_in};

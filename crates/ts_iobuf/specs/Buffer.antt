@@ -1,14 +1,12 @@
 -- What a contract sees of an IO buffer (the Developer's Guide's chapter "IO Buffers": a buffer, its readers,
--- each at
--- a place of its own, and blocks that are read without copying).
+-- each at a place of its own, and blocks that are read without copying).
 use Rattle.std.specs.Prelude.{◌≡◌, ℕ, ◌-◌, ◌≤◌, ◌++◌, List, [], ◌∷◌, length, take, drop, map, Bool, IsTrue, Option, Some, None, is_some, if◌then◌else◌, nat_lt}
 use Rattle.ts_iobuf.specs.declared.readers.ReaderId.{ReaderId}
 use Rattle.ts_iobuf.specs.declared.readers.Slot.{Slot}
 use Rattle.ts_iobuf.specs.Places.{place_in, bytes_from, moved, least_place, lowered}
 
 -- the bytes that were not dropped, the readers' places among them, the room that was handed out last, the
--- blocks
--- that the bytes stand in, and the water mark
+-- blocks that the bytes stand in, and the water mark
 pub record Buffer : Type 0 where
   pub bytes : List ℕ
   pub readers : List Slot

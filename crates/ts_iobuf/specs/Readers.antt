@@ -14,8 +14,7 @@ abbrev pub last_used : List Slot → ℕ → ℕ
 last_used slots i = generation_of (slice_get slots i)
 
 -- The readers have one more, under a name that was not used. No index goes back to an earlier generation, so
--- a name
--- is given once.
+-- a name is given once.
 pub record OpensReader (old new : List Slot) (r : ReaderId) : Type 0 where
   pub fresh : place_in old r ≡ None
   pub newer : last_used old r.index < r.generation

@@ -34,7 +34,8 @@ impl Model for IoBuffer {
 }
 
 impl IoBuffer {
-    ghost use Rattle.ts_iobuf.specs.Buffer.{Consumes, GrowsBy, ReachesMark, blocks_of, is_reader, part_of, readable, unread};
+    ghost use Rattle.ts_iobuf.specs.Buffer.{Consumes, GrowsBy, ReachesMark, blocks_of, is_reader};
+    ghost use Rattle.ts_iobuf.specs.Buffer.{part_of, readable, unread};
     ghost use Rattle.ts_iobuf.specs.Places.{place_in};
     ghost use Rattle.ts_iobuf.specs.Readers.{ClosesReader, OpensReader};
 

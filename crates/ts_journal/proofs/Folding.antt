@@ -99,7 +99,8 @@ grows_little s (Made key) =
     let newest : length (with_key key s.newest) ≤ length s.newest + 1 = with_key_short key s.newest in
     record { pending = omega arith; live = omega arith; newest = newest }
 grows_little s (Set number key event due series period) =
-    let p : Pending = record { number = number; key = key; event = event; due = due; series = series; period = period } in
+    let p : Pending =
+    record { number = number; key = key; event = event; due = due; series = series; period = period } in
     let longer : length (s.pending ++ p ∷ []) ≡ length s.pending + 1 = length_push s.pending p in
     record { pending = omega arith; live = omega arith; newest = omega arith }
 grows_little s (Handled number moment) = let r = without_short number s.pending in record

@@ -11,3 +11,4 @@ pub mod Facts
 pub mod Later
 pub mod Extends
 pub mod Folding
+pub mod Final

@@ -69,7 +69,8 @@ valid_after s (Made key) v (held, low, free, next, fits) = record {
   fits = v.fits;
 }
 valid_after s (Set number key event due series period) v a =
-    let p : Pending = record { number = number; key = key; event = event; due = due; series = series; period = period } in
+    let p : Pending =
+    record { number = number; key = key; event = event; due = due; series = series; period = period } in
     record {
       rises = rises_push 0 s.pending s.next p a.1 v.rises;
       alive = alive_push s.live s.pending p v.alive a.3;
@@ -154,9 +155,9 @@ reached_fresh base s turns b e =
           (λ x. IsValid x) (sym e) v;
     }
 
-pub reached_fresh_with : (base s : State) (turns : ℕ) (key : ContKey) → key.index < MOST_KEYS
+pub reached_with : (base s : State) (turns : ℕ) (key : ContKey) → key.index < MOST_KEYS
     → base ≡ fresh_with turns key → s ≡ fresh_with turns key → IsReached base [] s
-reached_fresh_with base s turns key low b e =
+reached_with base s turns key low b e =
     let v = valid_fresh_with turns key low in
     record {
       lawful = tt;
@@ -184,8 +185,8 @@ reached_push base es fs e s t r a f g =
 pub lived_fresh : (s : State) (turns : ℕ) → s ≡ fresh turns → HasLived turns s
 lived_fresh s turns e = record { beginning = s; is_beginning = inl e; life = []; lawful = tt; state = refl }
 
-pub lived_fresh_with : (s : State) (turns : ℕ) (key : ContKey) → s ≡ fresh_with turns key → HasLived turns s
-lived_fresh_with s turns key e = record {
+pub lived_with : (s : State) (turns : ℕ) (key : ContKey) → s ≡ fresh_with turns key → HasLived turns s
+lived_with s turns key e = record {
   beginning = s;
   is_beginning = inr (key, e);
   life = [];

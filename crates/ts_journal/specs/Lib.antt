@@ -2,6 +2,7 @@
 pub mod State
 pub mod Machine
 pub mod Log
+pub mod Final
 pub mod Tally
 pub mod Tables
 pub mod Laws

@@ -32,7 +32,7 @@ fn last_mark(before: Option<Mark>, entries: &[Entry]) -> Option<Mark>
 }
 
 /// The journal of a mutex group: where its entries begin, what happened since, and where that leads. It takes
-/// memory only in `make`, `with_key` and `reserve`.
+/// memory only in `make`, `with_key`, `reserve` and `trim`.
 #[derive(Drop)]
 pub struct Journal {
     base: Tables,
@@ -82,7 +82,7 @@ impl Journal {
     }
 
     /// The journal of such a group that has one key, which is live.
-    #[tactic(auto, using(crate::proofs::Validity::reached_fresh_with, crate::proofs::Validity::lived_fresh_with))]
+    #[tactic(auto, using(crate::proofs::Validity::reached_with, crate::proofs::Validity::lived_with))]
     pub fn with_key(alloc: Global, turns: u64, key: ContKey) -> Result<Journal, NoMemory>
         requires { key.index < MOST_KEYS }
         ensures base { IfOk result (λ j. j.base ≡ new_base (fresh_with turns key)) }

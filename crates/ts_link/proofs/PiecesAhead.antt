@@ -1,6 +1,5 @@
 -- What holds of the pieces that are ahead of a link in memory: which bytes and stalls they have, and how a
--- read moves on
--- among them.
+-- read moves on among them.
 use Rattle.std.proofs.Common.{get_or, leb-false, ◌≡◌, ℕ, zero, suc, ◌+◌, ◌-◌, ◌≤◌, ◌<◌, ◌++◌, min, List, [], ◌∷◌, length, take, drop, refl, sym, ap, subst, ◌∙◌, cond, false, append_assoc, arith}
 use Rattle.std.proofs.Math.Seq.{take-append_seam, drop-cons, take-nil, drop-nil}
 use Rattle.std.proofs.lemmas.List.{drop_all, drop-take, drop-drop, drop_min, take-take, length-take, take-append-drop, take-append-le, take_min, length-drop, length-append, append-nil}

@@ -1,6 +1,5 @@
 -- Counts of answers. An object of the outside counts its faults in a `u64`, which never falls and stays at
--- its
--- greatest value; so a fault that is reported with no count that rose was made up.
+-- its greatest value; so a fault that is reported with no count that rose was made up.
 use Rattle.std.specs.Prelude.{◌≡◌, ℕ, ◌+◌, ◌-◌, ◌^◌, ◌≤◌, Bool, true, false, min, max, if◌then◌else◌}
 
 -- the greatest u64

@@ -37,8 +37,7 @@ cut_up [] bytes = Bytes bytes ∷ []
 cut_up (c ∷ cs) bytes = Bytes (take c bytes) ∷ cut_up cs (drop c bytes)
 
 -- What is there to give: all its bytes, the stalls at which it waits, both of which stay, and the pieces that
--- are ahead,
--- of which the first is not empty.
+-- are ahead, of which the first is not empty.
 pub record Input : Type 0 where
   pub source : List ℕ
   pub stalls : List (ℕ × ℕ)

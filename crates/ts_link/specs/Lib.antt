@@ -7,6 +7,7 @@ pub mod LinkAnswers
 pub mod MemLink
 pub mod MemShelf
 pub mod MemSink
+pub mod Moments
 pub mod Numbered
 pub mod Seen
 pub mod Shelf

@@ -7,10 +7,8 @@ use Rattle.ts_link.specs.declared.link.Put.{Put}
 use Rattle.ts_link.specs.declared.link.Put.TheVariants as P
 
 -- The calls of a link that answer Failed or Again, now and later: reads and writes by their numbers, counted
--- from 1;
--- pairs of a place in its source and the number of reads that wait there; and after how many bytes it leaves,
--- so that
--- each write after them fails.
+-- from 1; pairs of a place in its source and the number of reads that wait there; and after how many bytes it
+-- leaves, so that each write after them fails.
 pub record Plan : Type 0 where
   pub fail_reads : List ℕ
   pub fail_writes : List ℕ

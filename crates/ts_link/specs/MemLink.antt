@@ -22,8 +22,7 @@ input_of (Cut i) = i
 input_of (Pieces i) = i
 
 -- What it has to give, what it took, how much it takes a write and, where it leaves, how much before that;
--- its reads and
--- its writes by number; and the counts of its answers.
+-- its reads and its writes by number; and the counts of its answers.
 pub record LinkState : Type 0 where
   pub input : Input
   pub taken : List ℕ

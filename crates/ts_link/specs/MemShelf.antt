@@ -17,8 +17,7 @@ pub record ShelfState : Type 0 where
   pub longs : ℕ
 
 -- a shelf in memory fails exactly at the calls of its list and where it has no file of the name; a file that
--- is
--- too long was seen whole
+-- is too long was seen whole
 abbrev pub ReadsAt : ShelfState → List ℕ → ℕ → Result Octets ShelfFault → Type 0
 ReadsAt old name most (Ok bytes) =
     (is_listed old.calls old.failing ≡ false) × (file_in old.files name ≡ Some bytes) × (length bytes ≤ most)

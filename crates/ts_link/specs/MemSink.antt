@@ -7,8 +7,7 @@ use Rattle.ts_link.specs.declared.sink.Wrote.{Wrote}
 use Rattle.ts_link.specs.declared.sink.Wrote.TheVariants.{Took, Failed, NoMemory}
 
 -- what a sink in memory took, how much it takes a call, the numbers of the calls that fail, the number of
--- calls,
--- and the counts
+-- calls, and the counts
 pub record SinkState : Type 0 where
   pub taken : List ℕ
   pub most : ℕ

@@ -1,6 +1,5 @@
 -- Which calls of a memory form go wrong. Calls of one kind are numbered from 1; a call after as many as the
--- greatest
--- u64 has no number, and goes wrong by none.
+-- greatest u64 has no number, and goes wrong by none.
 use Rattle.std.specs.Prelude.{ℕ, ◌+◌, ◌==◌, List, [], ◌∷◌, Bool, true, false, if◌then◌else◌, nat_lt}
 use Rattle.std.specs.List.{list_any}
 use Rattle.ts_link.specs.Counts.{greatest, one_more}

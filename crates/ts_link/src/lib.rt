@@ -24,6 +24,7 @@ pub use link::{Got, Link, Put};
 pub use mem_link::MemLink;
 pub use mem_shelf::MemShelf;
 pub use mem_sink::MemSink;
+pub use numbered::is_listed;
 pub use octets::{NoMemory, Octets};
 pub use piece::Piece;
 pub use shelf::{Shelf, ShelfFault};

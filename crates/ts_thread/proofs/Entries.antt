@@ -15,7 +15,7 @@ use Rattle.ts_journal.proofs.Events.{is_known}
 use Rattle.ts_journal.proofs.Later.{never_back_lem}
 use Rattle.ts_journal.proofs.Lookups.{pending_gone}
 use Rattle.ts_journal.proofs.Validity.{valid_after}
-use Rattle.ts_group.specs.Context.{moment_after}
+use Rattle.ts_link.specs.Moments.{moment_after}
 use Rattle.ts_group.specs.Entries.{AllOwn, renewal}
 use Rattle.ts_group.specs.Calls.{IsRun, RunsFrom}
 use Rattle.ts_group.specs.Slot.{marks_of, mark_of, marks_in}

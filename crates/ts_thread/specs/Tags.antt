@@ -9,8 +9,7 @@ use Rattle.ts_group.specs.Answers.{Holds}
 use Rattle.ts_group.specs.Slot.{IsAtRest}
 
 -- A group fits a tag: its world does, what is to hold of it holds, it is at rest, and it was made with no
--- turns where the
--- tag asks for that.
+-- turns where the tag asks for that.
 abbrev pub GroupFits : {W Q R T U : Type 0} → (T → W → Type 0) → (W → State → List Named → Type 0)
     → (T → Bool) → (T → Bool) → T → Group W Q R T U → Type 0
 GroupFits Fits Sound only_asked is_first t g =

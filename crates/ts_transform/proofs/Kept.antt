@@ -8,7 +8,8 @@ use Rattle.ts_journal.specs.State.{IsLive}
 use Rattle.ts_group.specs.declared.action.Action.{Action}
 use Rattle.ts_group.specs.declared.action.SetFault.{SetFault}
 use Rattle.ts_group.specs.declared.action.SetFault.TheVariants as F
-use Rattle.ts_group.specs.Context.{Context, role_at, moment_after}
+use Rattle.ts_group.specs.Context.{Context, role_at}
+use Rattle.ts_link.specs.Moments.{moment_after}
 use Rattle.ts_group.specs.Entries.{Grows}
 use Rattle.ts_group.proofs.Grows.{grows_refl, grows_trans}
 use Rattle.ts_group.specs.Acts.{Sets}

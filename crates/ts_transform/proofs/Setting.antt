@@ -8,7 +8,8 @@ use Rattle.ts_journal.specs.State.{pending_at}
 use Rattle.ts_group.specs.declared.action.Action.{Action}
 use Rattle.ts_group.specs.declared.action.Named.{Named}
 use Rattle.ts_group.specs.declared.action.SetFault.{SetFault}
-use Rattle.ts_group.specs.Context.{Context, moment_after, role_at}
+use Rattle.ts_group.specs.Context.{Context, role_at}
+use Rattle.ts_link.specs.Moments.{moment_after}
 use Rattle.ts_group.specs.Acts.{Sets}
 use Rattle.ts_group.specs.Changes.{IsLess}
 use Rattle.ts_group.specs.Entries.{Grows}

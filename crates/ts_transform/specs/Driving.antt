@@ -12,7 +12,8 @@ use Rattle.ts_group.specs.declared.action.Named.{Named}
 use Rattle.ts_group.specs.Changes.{HasLost}
 use Rattle.ts_group.specs.declared.action.SetFault.{SetFault}
 use Rattle.ts_group.specs.declared.action.SetFault.TheVariants as F
-use Rattle.ts_group.specs.Context.{Context, role_at, moment_after, AllPlain}
+use Rattle.ts_group.specs.Context.{Context, role_at, AllPlain}
+use Rattle.ts_link.specs.Moments.{moment_after}
 use Rattle.ts_group.specs.Entries.{Grows}
 use Rattle.ts_transform.specs.Seats.{KeepsSeated}
 use Rattle.ts_transform.specs.declared.continuation.StageContinuation.{StageContinuation}

@@ -1,6 +1,7 @@
 //! A transform of a body: what it is given in pieces, and what it writes.
-ghost use Rattle.std.specs.Prelude.{◌≡◌, ℕ, ◌<◌, ◌≤◌, List, [], length, take, IsTrue, IfOk, OnOk, OnErr};
-ghost use Rattle.ts_iobuf.specs.Buffer.{GrowsBy, is_reader, readable};
+ghost use Rattle.std.specs.Prelude.{◌≡◌, ℕ, ◌<◌, ◌≤◌, List, [], length, take, slice_get};
+ghost use Rattle.std.specs.Prelude.{IsTrue, IsSomeAnd, IfOk, OnOk, OnErr};
+ghost use Rattle.ts_iobuf.specs.Buffer.{GrowsBy, blocks_of, is_reader, readable};
 ghost use Rattle.ts_transform.specs.Law.{Feeds};
 
 use std::alloc::Global;
@@ -18,6 +19,7 @@ pub fn front_of(input: &IoBuffer, reader: ReaderId, most: usize) -> &[u8]
     ensures count { (1 ≤ length result.now) × (length result.now ≤ most)
         × (length result.now ≤ length (readable input.now reader)) }
     ensures front { result.now ≡ take (length result.now) (readable input.now reader) }
+    ensures block { IsSomeAnd (slice_get (blocks_of input.now reader) 0) (λ block. result.now ≡ take most block) }
 {
     let Some(block) = input.block(reader, 0) else {
         unreachable!()

@@ -2,7 +2,7 @@
 ghost use Rattle.std.specs.Prelude.{◌≡◌, ◌+◌, ◌-◌, ◌≤◌, true};
 ghost use Rattle.ts_journal.specs.declared.entry.Event.TheVariants as Event;
 ghost use Rattle.ts_group.specs.Acts.{Sets};
-ghost use Rattle.ts_group.specs.Context.{moment_after};
+ghost use Rattle.ts_link.specs.Moments.{moment_after};
 ghost use Rattle.ts_group.specs.Entries.{Grows};
 
 use ts_group::{Action, Cx, SetFault};

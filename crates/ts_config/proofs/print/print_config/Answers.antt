@@ -4,7 +4,6 @@ use Rattle.std.specs.Prelude.{flat_map}
 use Rattle.ts_config.specs.Printing.{printed, printed_line, printed_plugin}
 use Rattle.ts_config.specs.Reading.{IsConfiguration}
 use Rattle.ts_config.specs.Setup.{lines_of, untexted_lines}
-use Rattle.ts_config.specs.Table.{all_names}
 use Rattle.ts_config.proofs.ReadBack.{come_again}
 use Rattle.ts_config.proofs.print.print_config.Goals as goal
 
@@ -20,5 +19,5 @@ returns-clause-again c =
     ∙ ap (λ (front : List ℕ). front ++ flat_map printed_plugin c.as_slice-2.result.now) transforms
     ∙ ap (λ ps. flat_map printed_line lines.transforms ++ flat_map printed_plugin ps)
     c.as_slice-2.ensures.value in
-    subst (λ (bytes : List ℕ). IsConfiguration all_names bytes (untexted_lines lines)) (sym text)
+    subst (λ (bytes : List ℕ). IsConfiguration bytes (untexted_lines lines)) (sym text)
     (come_again lines c.requires)

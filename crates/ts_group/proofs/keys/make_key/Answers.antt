@@ -64,8 +64,9 @@ returns-clause-kept c =
     let left = c.push.ensures.room in
     record {
       room = omega arith;
-      keys = ap keys_of (c.push_reserved.ensures.items ∙ ap (λ rs. rs ++ r ∷ []) c.reserve_moved.ensures.items) ∙
-          keys_push c.args.roles.now.items r
+      keys = ap keys_of
+          (c.push_reserved.ensures.items ∙ ap (λ rs. rs ++ r ∷ []) c.reserve_moved.ensures.items)
+          ∙ keys_push c.args.roles.now.items r
           ∙ ap (λ ks. ks ++ c.in-Some.key ∷ [])
           (c.requires.kept.keys ∙ ap (λ (x : State). x.live) (sym c.spare.ensures.same.state)) ∙ ap
           (λ (x : State). x.live) (sym e);

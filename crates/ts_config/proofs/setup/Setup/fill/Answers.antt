@@ -2,7 +2,6 @@
 use Rattle.std.proofs.Common.{ap, sym, ◌∙◌, subst}
 use Rattle.ts_config.specs.Reading.{IsConfiguration}
 use Rattle.ts_config.specs.Setup.{untexted}
-use Rattle.ts_config.specs.Table.{all_names}
 use Rattle.ts_config.specs.declared.setup.TransformLine.TheVariants.{Append}
 use Rattle.ts_config.proofs.Filled.{untexted-set, same_names}
 use Rattle.ts_config.proofs.Meanings.{lines_of_both}
@@ -17,7 +16,7 @@ returns-clause-lines c =
 pub returns-clause-printable : goal.returns-clause-printable
 returns-clause-printable c = λ from. record {
   bytes = from.bytes;
-  read = subst (λ ts. IsConfiguration all_names from.bytes (lines_of_both ts c.args.self.now.plugins.items))
+  read = subst (λ ts. IsConfiguration from.bytes (lines_of_both ts c.args.self.now.plugins.items))
       (sym (returns-clause-lines c)) from.read;
 }
 
