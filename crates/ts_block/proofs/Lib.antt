@@ -4,3 +4,4 @@ pub mod PlainRules
 pub mod Saying
 pub mod Searching
 pub mod SentOnce
+pub mod BlockRequest

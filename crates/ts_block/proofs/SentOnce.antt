@@ -45,8 +45,8 @@ use Rattle.ts_block.specs.Heads.{HasRequest, HasResponse, FinalHead}
 use Rattle.ts_block.specs.Block.{request_text, own_text, own_block, framing_for, relayed_head}
 use Rattle.ts_block.specs.Block.{is_acted_on, AnswerSays, lacking, passed_on, BodySays, ended, cut, bad}
 use Rattle.ts_block.specs.Block.{DialSays, DenySays, VerdictSays, IsBlock, silent, no_head, asked}
-use Rattle.ts_block.specs.Sent.{HasPlainRules, AsksOnce, AnswersOnce, RelaysOnce, IsAsked, IsAnswer}
-use Rattle.ts_block.specs.Sent.{SendsOnce, BlocksSendOnce}
+use Rattle.ts_block.specs.Sent.{HasPlainRules, RequestStaysOne, AnswerStaysOne, ResponseStaysOne}
+use Rattle.ts_block.specs.Sent.{IsClientRequest, IsOneResponse, SendsOneEach, BlocksSendOneEach}
 use Rattle.ts_block.proofs.PlainRules.{ruled_plain}
 
 -- ---- a length that was read can be sent
@@ -183,15 +183,15 @@ was_answered o h rest has = record { parsed = has.parsed; good = has.begins.read
 module _ (setup : Setup) (plain : HasPlainRules setup) where
   -- ---- the three heads
 
-  pub asks_once : AsksOnce setup
-  asks_once q target host read passes =
+  pub request_stays_one : RequestStaysOne setup
+  request_stays_one q target host read passes =
       sends_one_request q target host (ruled S.Request setup.plugins.items (forwarded q.fields))
       (request_text setup q target host) refl read passes
       (ruled_plain S.Request setup.plugins.items (forwarded q.fields) (forwarded q.fields) plain
       (forwards_unchanged q read))
 
-  pub answers_once : AnswersOnce setup
-  answers_once status =
+  pub answer_stays_one : AnswerStaysOne setup
+  answer_stays_one status =
       let fields = ruled S.Response setup.plugins.items (own_field ∷ []) in
       sends_one_response (code_of status) (own_reason status) fields None (C.Sized (length (own_body status)))
       (own_status_small status) (own_text setup status) refl (own_reason_passes status)
@@ -205,8 +205,8 @@ module _ (setup : Setup) (plain : HasPlainRules setup) where
       (framing_small h.status h.minor h.fields _)
       (told_small (coding_named h.fields) (length_named h.fields) (length_small h.fields))
 
-  pub relays_once : RelaysOnce setup
-  relays_once q h read =
+  pub response_stays_one : ResponseStaysOne setup
+  response_stays_one q h read =
       let sent = forwards_plainly h read in
       let unchanged : IsChangeOf (forwarded h.fields) (forwarded h.fields) =
       record { leaves = sent.1; hosts = refl } in
@@ -220,34 +220,35 @@ module _ (setup : Setup) (plain : HasPlainRules setup) where
   -- ---- the block, case by case
 
   -- a block that is this one
-  made_so : (c : List ℕ) (b made : Block) → b ≡ made → (made.request ≡ []) ⊎ IsAsked c made.request
-      → IsAnswer made.mode made.head → SendsOnce c b
+  made_so : (c : List ℕ) (b made : Block) → b ≡ made → (made.request ≡ []) ⊎ IsClientRequest c made.request
+      → IsOneResponse made.mode made.head → SendsOneEach c b
   made_so c b made is request answer =
-      subst (SendsOnce c) (sym is) (record { request = request; answer = inr answer })
+      subst (SendsOneEach c) (sym is) (record { request = request; answer = inr answer })
 
   own_so : (c request : List ℕ) (status : OwnStatus) (to_head : Bool) (b : Block)
-      → (request ≡ []) ⊎ IsAsked c request → b ≡ own_block setup request status to_head → SendsOnce c b
+      → (request ≡ []) ⊎ IsClientRequest c request → b ≡ own_block setup request status to_head
+      → SendsOneEach c b
   own_so c request status to_head b once is =
       made_so c b (own_block setup request status to_head) is once
       (record {
         status = code_of status;
         framing = C.Sized (length (own_body status));
         mode_is = refl;
-        sends = answers_once status;
+        sends = answer_stays_one status;
       })
 
   relayed_answer : (q : RequestHead) (o : List ℕ) (h : ResponseHead) (rest : List ℕ) → FinalHead o h rest
-      → IsAnswer (mode_of (framing_for setup q h)) (relayed_head setup q h)
+      → IsOneResponse (mode_of (framing_for setup q h)) (relayed_head setup q h)
   relayed_answer q o h rest final = record {
     status = h.status;
     framing = framing_for setup q h;
     mode_is = refl;
-    sends = relays_once q h (was_answered final.from h rest final.reads);
+    sends = response_stays_one q h (was_answered final.from h rest final.reads);
   }
 
   body_so : (c request : List ℕ) (q : RequestHead) (o : List ℕ) (h : ResponseHead) (rest : List ℕ) (b : Block)
-      → (request ≡ []) ⊎ IsAsked c request → FinalHead o h rest → BodySays setup request q h rest b
-      → SendsOnce c b
+      → (request ≡ []) ⊎ IsClientRequest c request → FinalHead o h rest → BodySays setup request q h rest b
+      → SendsOneEach c b
   body_so c request q o h rest b once final (ended body over is) =
       made_so c b _ is once (relayed_answer q o h rest final)
   body_so c request q o h rest b once final (cut body short is) =
@@ -256,45 +257,45 @@ module _ (setup : Setup) (plain : HasPlainRules setup) where
       made_so c b _ is once (relayed_answer q o h rest final)
 
   answer_so : (c request : List ℕ) (q : RequestHead) (o : List ℕ) (b : Block)
-      → (request ≡ []) ⊎ IsAsked c request → AnswerSays setup request q o b → SendsOnce c b
+      → (request ≡ []) ⊎ IsClientRequest c request → AnswerSays setup request q o b → SendsOneEach c b
   answer_so c request q o b once (lacking l is) = own_so c request O.BadGateway _ b once is
   answer_so c request q o b once (passed_on h rest final good says) =
       body_so c request q o h rest b once final says
 
   module _ (dialed : Bool) (refuses : Type 0) (o c : List ℕ) where
-    dial_so : (d : Bool) (request : List ℕ) (q : RequestHead) (b : Block) → IsAsked c request
-        → DialSays setup dialed refuses o d request q b → SendsOnce c b
+    dial_so : (d : Bool) (request : List ℕ) (q : RequestHead) (b : Block) → IsClientRequest c request
+        → DialSays setup dialed refuses o d request q b → SendsOneEach c b
     dial_so false request q b once is = own_so c [] O.BadGateway _ b (inl refl) is
     dial_so true request q b once (inl (r, is)) = own_so c request O.BadRequest _ b (inr once) is
     dial_so true request q b once (inr (free, says)) = answer_so c request q o b (inr once) says
 
-    deny_so : (d : Bool) (request : List ℕ) (q : RequestHead) (b : Block) → IsAsked c request
-        → DenySays setup dialed refuses o d request q b → SendsOnce c b
+    deny_so : (d : Bool) (request : List ℕ) (q : RequestHead) (b : Block) → IsClientRequest c request
+        → DenySays setup dialed refuses o d request q b → SendsOneEach c b
     deny_so true request q b once is = own_so c [] O.Forbidden _ b (inl refl) is
     deny_so false request q b once says = dial_so dialed request q b once says
 
     verdict_so : (r : Result (List ℕ × List ℕ) ℕ) (q : RequestHead) (rest : List ℕ) (b : Block)
-        → HasRequest c q rest → check q ≡ r → VerdictSays setup dialed refuses o r q b → SendsOnce c b
+        → HasRequest c q rest → check q ≡ r → VerdictSays setup dialed refuses o r q b → SendsOneEach c b
     verdict_so (Err status) q rest b has is says = own_so c [] _ _ b (inl refl) says
     verdict_so (Ok (target, host)) q rest b has is says =
-        let once : IsAsked c (request_text setup q target host) = record {
+        let once : IsClientRequest c (request_text setup q target host) = record {
           head = q;
           rest = rest;
           target = target;
           host = host;
           has = has;
           checked = is;
-          sends = asks_once q target host (was_read c q rest has) is;
+          sends = request_stays_one q target host (was_read c q rest has) is;
         } in
         deny_so _ (request_text setup q target host) q b once says
 
-    pub block_sends_once : (b : Block) → IsBlock setup dialed refuses o c b → SendsOnce c b
-    block_sends_once b (silent e is) = subst (SendsOnce c) (sym is)
+    pub block_sends_one_each : (b : Block) → IsBlock setup dialed refuses o c b → SendsOneEach c b
+    block_sends_one_each b (silent e is) = subst (SendsOneEach c) (sym is)
         (record { request = inl refl; answer = inl refl })
-    block_sends_once b (no_head n l is) = own_so c [] O.BadRequest false b (inl refl) is
-    block_sends_once b (asked n q rest has says) = verdict_so (check q) q rest b has refl says
+    block_sends_one_each b (no_head n l is) = own_so c [] O.BadRequest false b (inl refl) is
+    block_sends_one_each b (asked n q rest has says) = verdict_so (check q) q rest b has refl says
 
 -- the block of all bytes, where a link refuses uploads or not
-pub blocks_send_once : (setup : Setup) → HasPlainRules setup → BlocksSendOnce setup
-blocks_send_once setup plain dialed refuses o c b says =
-    block_sends_once setup plain dialed (refuses ≡ true) o c b says
+pub blocks_send_one_each : (setup : Setup) → HasPlainRules setup → BlocksSendOneEach setup
+blocks_send_one_each setup plain dialed refuses o c b says =
+    block_sends_one_each setup plain dialed (refuses ≡ true) o c b says

@@ -63,6 +63,25 @@ module _ (setup : Setup) where
   request_text q target host =
       request_with q target host (ruled S.Request setup.plugins.items (forwarded q.fields))
 
+  -- All bytes of a client are a request that goes to its origin: it passes the check, no deny line denies its
+  -- host, and there is an origin.
+  pub record GoesToOrigin (dialed : Bool) (c : List ℕ) (q : RequestHead) (target host : List ℕ)
+      : Type 0 where
+    pub some : c ≢ []
+    pub rest : List ℕ
+    pub reads : HasRequest c q rest
+    pub passes : check q ≡ Ok (target, host)
+    pub allowed : is_denied setup.plugins.items (plugin_host host) ≡ false
+    pub has_origin : dialed ≡ true
+
+  -- THE REQUEST that the origin gets, by all bytes of its client: the head of one that goes to it, and else
+  -- nothing.
+  pub data IsRequestOf (dialed : Bool) (c request : List ℕ) : Type 0 where
+    sent_on : (q : RequestHead) (target host : List ℕ) → GoesToOrigin dialed c q target host
+        → request ≡ request_text q target host → IsRequestOf dialed c request
+    kept_back : ((q : RequestHead) (target host : List ℕ) → GoesToOrigin dialed c q target host → ⊥)
+        → request ≡ [] → IsRequestOf dialed c request
+
   abbrev pub own_text : OwnStatus → List ℕ
   own_text status = own_head status (ruled S.Response setup.plugins.items (own_field ∷ []))
 
@@ -162,3 +181,15 @@ abbrev pub HasOneBlock : Type 0
 HasOneBlock =
     (setup : Setup) (dialed refuses : Bool) (o c : List ℕ) (a b : Block)
     → IsBlock setup dialed (refuses ≡ true) o c a → IsBlock setup dialed (refuses ≡ true) o c b → a ≡ b
+
+-- all bytes of a client say at most one request
+abbrev pub HasOneRequest : Type 0
+HasOneRequest =
+    (setup : Setup) (dialed : Bool) (c x y : List ℕ)
+    → IsRequestOf setup dialed c x → IsRequestOf setup dialed c y → x ≡ y
+
+-- the request of the block of all bytes is the one that those of the client say
+abbrev pub BlocksHaveRequest : Type 0
+BlocksHaveRequest =
+    (setup : Setup) (dialed refuses : Bool) (o c : List ℕ) (b : Block)
+    → IsBlock setup dialed (refuses ≡ true) o c b → IsRequestOf setup dialed c b.request

@@ -23,23 +23,23 @@ HasPlainRules setup = All HasPlainRule setup.plugins.items
 
 module _ (setup : Setup) where
   -- a request that was read and passed the check goes to the origin as one
-  abbrev pub AsksOnce : Type 0
-  AsksOnce = (q : RequestHead) (target host : List ℕ) → IsReadRequest q → check q ≡ Ok (target, host)
+  abbrev pub RequestStaysOne : Type 0
+  RequestStaysOne = (q : RequestHead) (target host : List ℕ) → IsReadRequest q → check q ≡ Ok (target, host)
       → SendsRequest q.method target host (request_text setup q target host)
 
   -- an answer of the proxy's own is one response, and tells the length of its body
-  abbrev pub AnswersOnce : Type 0
-  AnswersOnce = (status : OwnStatus)
+  abbrev pub AnswerStaysOne : Type 0
+  AnswerStaysOne = (status : OwnStatus)
       → SendsResponse (code_of status) (C.Sized (length (own_body status))) (own_text setup status)
 
   -- a response that was read goes to the client as one, whose body ends as the proxy frames it
-  abbrev pub RelaysOnce : Type 0
-  RelaysOnce = (q : RequestHead) (h : ResponseHead) → IsReadResponse h
+  abbrev pub ResponseStaysOne : Type 0
+  ResponseStaysOne = (q : RequestHead) (h : ResponseHead) → IsReadResponse h
       → SendsResponse h.status (framing_for setup q h) (relayed_head setup q h)
 
 -- the text is one request: the one that the client's bytes begin with, with the target and for the host that
 -- the check of it found
-pub record IsAsked (client text : List ℕ) : Type 0 where
+pub record IsClientRequest (client text : List ℕ) : Type 0 where
   pub head : RequestHead
   pub rest : List ℕ
   pub target : List ℕ
@@ -49,18 +49,18 @@ pub record IsAsked (client text : List ℕ) : Type 0 where
   pub sends : SendsRequest head.method target host text
 
 -- the text is one response, whose body is written as its head says
-pub record IsAnswer (mode : Mode) (text : List ℕ) : Type 0 where
+pub record IsOneResponse (mode : Mode) (text : List ℕ) : Type 0 where
   pub status : ℕ
   pub framing : ClientFraming
   pub mode_is : mode ≡ mode_of framing
   pub sends : SendsResponse status framing text
 
 -- the origin gets nothing or one request, and the client nothing or one response
-pub record SendsOnce (client : List ℕ) (b : Block) : Type 0 where
-  pub request : (b.request ≡ []) ⊎ IsAsked client b.request
-  pub answer : (b.head ≡ []) ⊎ IsAnswer b.mode b.head
+pub record SendsOneEach (client : List ℕ) (b : Block) : Type 0 where
+  pub request : (b.request ≡ []) ⊎ IsClientRequest client b.request
+  pub answer : (b.head ≡ []) ⊎ IsOneResponse b.mode b.head
 
 -- so it is with the block of all bytes of both sides
-abbrev pub BlocksSendOnce : Setup → Type 0
-BlocksSendOnce setup = (dialed refuses : Bool) (o c : List ℕ) (b : Block)
-    → IsBlock setup dialed (refuses ≡ true) o c b → SendsOnce c b
+abbrev pub BlocksSendOneEach : Setup → Type 0
+BlocksSendOneEach setup = (dialed refuses : Bool) (o c : List ℕ) (b : Block)
+    → IsBlock setup dialed (refuses ≡ true) o c b → SendsOneEach c b

@@ -9,6 +9,7 @@ ghost use Rattle.ts_block.specs.Block.{IsGood, request_with, request_text, own_t
 ghost use Rattle.ts_block.specs.Block.{silent_block, lines_for, body_lines, framing_for, relayed_with};
 ghost use Rattle.ts_block.specs.Block.{relayed_head, relayed_block, BodySays};
 ghost use Rattle.ts_block.specs.Block.{AnswerSays, DialSays, VerdictSays, IsBlock, HasOneBlock};
+ghost use Rattle.ts_block.specs.Block.{HasOneRequest, BlocksHaveRequest};
 
 use crate::bodies::compose;
 use crate::content::is_acted_on;
@@ -468,4 +469,11 @@ pub fn block_of(
 /// The law that all bytes of both sides have at most one block. The function does nothing.
 pub fn one_block()
     ensures { HasOneBlock }
+{}
+
+/// The law that all bytes of a client say at most one request, which is that of the block of all bytes. The
+/// function does nothing.
+pub fn one_sent_request()
+    ensures one { HasOneRequest }
+    ensures block { BlocksHaveRequest }
 {}

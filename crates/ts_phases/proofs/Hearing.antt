@@ -27,7 +27,7 @@ use Rattle.ts_plugin.specs.Lines.{IsNext, lines_left}
 use Rattle.ts_plugin.specs.Replies.{IsReplyOf, answer_of, fields_of, hook_of_side}
 use Rattle.ts_plugin.proofs.HookLines.{next_within}
 use Rattle.ts_plugin.proofs.InTurn.{answer_denies, fields_after}
-use Rattle.ts_phases.specs.Asking.{AsksFor, IsRightReply, asked_phase, continued_step, denial_of}
+use Rattle.ts_phases.specs.Asking.{AsksFor, AsksPlugins, IsRightReply, asked_phase, continued_step, denial_of}
 use Rattle.ts_phases.specs.Asking.{lacking_step, question_in, refused_step, replied_step, told_step}
 use Rattle.ts_phases.specs.Cover.{StepLeads}
 use Rattle.ts_phases.specs.Facts.{IsRuledTo, OwnReady, PassesDeny}
@@ -49,11 +49,11 @@ use Rattle.ts_phases.proofs.LoweringSteps.{stays_calm, to_end, to_own}
 
 module _ (p : Phase) (fields : List Field) (no_lookup : (q : Request) (place : ℕ) → p ≡ P.OsDns q place → ⊥)
     (no_request : (q : Request) (place : ℕ) (fs : List Field) → p ≡ P.RuleRequest q place fs → ⊥) where
-  -- such a phase leads to the end for want of memory
+  -- such a phase is told nothing
   pub asks_nothing : ((q : Request) (h : ResponseHead) (place : ℕ) (fs : List Field)
       → p ≡ P.RuleResponse q h place fs → ⊥)
       → ((a : OwnAnswer) (place : ℕ) (fs : List Field) → p ≡ P.RuleAnswer a place fs → ⊥)
-      → lacking_step ≡ continued_step p fields
+      → AsksPlugins p → ⊥
   asks_nothing no_response no_answer = by_phase p no_lookup no_request no_response no_answer
     where
       by_phase : (p : Phase) → ((q : Request) (place : ℕ) → p ≡ P.OsDns q place → ⊥)
@@ -61,15 +61,13 @@ module _ (p : Phase) (fields : List Field) (no_lookup : (q : Request) (place : �
           → ((q : Request) (h : ResponseHead) (place : ℕ) (fs : List Field)
           → p ≡ P.RuleResponse q h place fs → ⊥)
           → ((a : OwnAnswer) (place : ℕ) (fs : List Field) → p ≡ P.RuleAnswer a place fs → ⊥)
-          → lacking_step ≡ continued_step p fields
-      by_phase (P.OsDns q place) not_one not_two not_three not_four = absurd (not_one q place refl)
-      by_phase (P.RuleRequest q place fs) not_one not_two not_three not_four =
-          absurd (not_two q place fs refl)
-      by_phase (P.RuleResponse q h place fs) not_one not_two not_three not_four =
-          absurd (not_three q h place fs refl)
-      by_phase (P.RuleAnswer a place fs) not_one not_two not_three not_four =
-          absurd (not_four a place fs refl)
-      by_phase _ not_one not_two not_three not_four = refl
+          → AsksPlugins p → ⊥
+      by_phase (P.OsDns q place) not_one not_two not_three not_four asks = not_one q place refl
+      by_phase (P.RuleRequest q place fs) not_one not_two not_three not_four asks = not_two q place fs refl
+      by_phase (P.RuleResponse q h place fs) not_one not_two not_three not_four asks =
+          not_three q h place fs refl
+      by_phase (P.RuleAnswer a place fs) not_one not_two not_three not_four asks = not_four a place fs refl
+      by_phase _ not_one not_two not_three not_four asks = asks
 
   -- behind the request's hooks an error is taken as if it went on
   pub error_ignored : continued_step p fields ≡ refused_step p fields

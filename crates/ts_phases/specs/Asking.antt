@@ -1,7 +1,7 @@
 -- What a transaction asks the plugins of its hooks, one after the other in the order of their lines, and
 -- where each reply leads it (Developer's Guide, "Hooks and Transactions").
 use Rattle.std.specs.Prelude.{◌≡◌, ℕ, ◌+◌, ◌<◌, ◌^◌, List, [], ◌∷◌, length, Option, Some, None, Result, Ok}
-use Rattle.std.specs.Prelude.{Err, slice_get}
+use Rattle.std.specs.Prelude.{Err, slice_get, ⊤}
 use Rattle.ts_config.specs.declared.setup.Setup.{Setup}
 use Rattle.ts_config.specs.declared.fields.PluginLine.{PluginLine}
 use Rattle.ts_group.specs.declared.world.Asked.{Asked}
@@ -48,6 +48,14 @@ asked_phase (P.RuleRequest q place none) question = P.RuleRequest q place questi
 asked_phase (P.RuleResponse q head place none) question = P.RuleResponse q head place question.fields
 asked_phase (P.RuleAnswer a place none) question = P.RuleAnswer a place question.fields
 asked_phase phase question = phase
+
+-- plugins are asked in this phase, so that it is told what came of a question
+abbrev pub AsksPlugins : Phase → Type 0
+AsksPlugins (P.OsDns q place) = ⊤
+AsksPlugins (P.RuleRequest q place fields) = ⊤
+AsksPlugins (P.RuleResponse q head place fields) = ⊤
+AsksPlugins (P.RuleAnswer a place fields) = ⊤
+AsksPlugins phase = ⊥
 
 -- The question of the phase goes to the group of the plugin whose turn it is. `at` is the group of the first
 -- line.
@@ -103,7 +111,7 @@ denial_of q = record { status = O.Forbidden; to_head = asks_head q.head; end = E
 abbrev pub lacking_step : Step
 lacking_step = record { phase = P.Ended E.NoMemory; next = N.Done }
 
--- the plugin let it go on, with these fields
+-- the plugin let it go on, with these fields; in no other phase is there one
 abbrev pub continued_step : Phase → List Field → Step
 continued_step (P.OsDns q place) fields = record { phase = P.OsDns q (place + 1); next = N.Go }
 continued_step (P.RuleRequest q place none) fields =

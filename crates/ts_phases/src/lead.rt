@@ -5,18 +5,43 @@ ghost use Rattle.ts_phases.specs.Leading.{LeadsTo};
 ghost use Rattle.ts_phases.specs.Holding.{HasTable, PhaseHolds};
 
 use crate::parts::Core;
-use crate::phase::{Led, Next, Phase, Step};
+use crate::phase::{Led, Next, Phase, Request, Step};
 use ts_hooks::TxnEnd;
 use ts_link::Link;
 use ts_upstream::Upstream;
+use ts_wire::ResponseHead;
 
 /// A step that goes on to a phase at once.
-pub(crate) fn go_to(phase: Phase) -> Step
+pub(crate) fn step_to(phase: Phase) -> Step
     ensures { result ≡ record { phase = phase; next = Next.Go } }
 {
     Step {
         phase,
         next: Next::Go,
+    }
+}
+
+// The origin's name is looked up next: no plugin of that hook has answered yet.
+fn look_up(request: Request) -> Step
+    ensures { result ≡ record { phase = Phase.OsDns request 0; next = Next.Go } }
+{
+    step_to(Phase::OsDns { request, place: 0 })
+}
+
+// The transforms of a response are chosen next.
+fn choose_transforms(request: Request, head: ResponseHead) -> Step
+    ensures { result ≡ record { phase = Phase.ResponseTransform request head; next = Next.Go } }
+{
+    step_to(Phase::ResponseTransform { request, head })
+}
+
+// A transaction has ended.
+fn ended(end: TxnEnd) -> Step
+    ensures { result ≡ record { phase = Phase.Ended end; next = Next.Done } }
+{
+    Step {
+        phase: Phase::Ended { end },
+        next: Next::Done,
     }
 }
 
@@ -30,13 +55,10 @@ impl<C: Link, O: Upstream<C>> Core<C, O> {
         ensures { LeadsTo C.Link O.Link O.Upstream.own self.old self.new phase result }
     {
         match phase {
-            Phase::Fresh => Led::Steps(go_to(Phase::TxnStart)),
-            Phase::TxnStart => Led::Steps(go_to(Phase::ReadRequest)),
+            Phase::Fresh => Led::Steps(step_to(Phase::TxnStart)),
+            Phase::TxnStart => Led::Steps(step_to(Phase::ReadRequest)),
             Phase::ReadRequest => Led::Steps(self.read_request()),
-            Phase::ReadRequestHdr { request } => Led::Steps(go_to(Phase::OsDns {
-                request,
-                place: 0,
-            })),
+            Phase::ReadRequestHdr { request } => Led::Steps(look_up(request)),
             Phase::OsDns { request, place } => self.os_dns(request, place),
             Phase::SendRequestHdr { request } => self.send_request_hdr(request),
             Phase::RuleRequest {
@@ -48,7 +70,7 @@ impl<C: Link, O: Upstream<C>> Core<C, O> {
             Phase::Upload { request } => Led::Steps(self.upload_some(request)),
             Phase::ReadResponse { request } => Led::Steps(self.read_response(request)),
             Phase::ReadResponseHdr { request, head } => {
-                Led::Steps(go_to(Phase::ResponseTransform { request, head }))
+                Led::Steps(choose_transforms(request, head))
             }
             Phase::ResponseTransform { request, head } => self.response_transform(request, head),
             Phase::RuleResponse {
@@ -65,10 +87,7 @@ impl<C: Link, O: Upstream<C>> Core<C, O> {
             } => self.rule_answer(answer, place, fields),
             Phase::Sending { answer } => Led::Steps(self.send(answer)),
             Phase::TxnClose { end } => Led::Steps(self.close(end)),
-            Phase::Ended { end } => Led::Steps(Step {
-                phase: Phase::Ended { end },
-                next: Next::Done,
-            }),
+            Phase::Ended { end } => Led::Steps(ended(end)),
         }
     }
 
@@ -78,9 +97,6 @@ impl<C: Link, O: Upstream<C>> Core<C, O> {
         ensures ended { result ≡ record { phase = Phase.Ended end; next = Next.Done } }
     {
         self.give_back();
-        Step {
-            phase: Phase::Ended { end },
-            next: Next::Done,
-        }
+        ended(end)
     }
 }

@@ -23,8 +23,9 @@ pub struct OwnAnswer {
     pub end: TxnEnd,
 }
 
-/// Where a transaction stands. The phases that have the name of a hook are those at which its plugins are
-/// asked.
+/// Where a transaction stands. A phase with the name of a hook is where the transaction comes to it, and the
+/// hook's first plugin is asked. Those behind it are asked in `OsDns`, and, at the hooks of a head that is
+/// about to be sent, in the phases whose names begin with `Rule`.
 #[derive(Drop)]
 pub enum Phase {
     /// It was not started.

@@ -1,9 +1,9 @@
 //! Where what came of a question leads a transaction.
 ghost use Rattle.std.specs.Prelude.{◌≡◌, ◌<◌};
-ghost use Rattle.ts_phases.specs.Asking.{asked_phase, continued_step, denial_of, most_places, place_in};
-ghost use Rattle.ts_phases.specs.Asking.{refused_step, replied_step, told_step};
+ghost use Rattle.ts_phases.specs.Asking.{AsksPlugins, asked_phase, continued_step, denial_of, most_places};
+ghost use Rattle.ts_phases.specs.Asking.{place_in, refused_step, replied_step, told_step};
 
-use crate::lead::go_to;
+use crate::lead::step_to;
 use crate::origin_request::answer_to;
 use crate::phase::{Next, Phase, Request, Step};
 use ts_block::OwnStatus;
@@ -49,11 +49,12 @@ fn asked_phase(phase: Phase, question: HookQuestion) -> Phase
 
 // A plugin let the transaction go on, with these fields.
 fn continued_step(phase: Phase, fields: Fields) -> Step
+    requires asks { AsksPlugins phase }
     requires room { place_in phase < most_places }
     ensures { result ≡ continued_step phase fields }
 {
     match phase {
-        Phase::OsDns { request, place } => go_to(Phase::OsDns {
+        Phase::OsDns { request, place } => step_to(Phase::OsDns {
             request,
             place: place + 1,
         }),
@@ -61,7 +62,7 @@ fn continued_step(phase: Phase, fields: Fields) -> Step
             request,
             place,
             fields: _none,
-        } => go_to(Phase::RuleRequest {
+        } => step_to(Phase::RuleRequest {
             request,
             place: place + 1,
             fields,
@@ -71,7 +72,7 @@ fn continued_step(phase: Phase, fields: Fields) -> Step
             head,
             place,
             fields: _none,
-        } => go_to(Phase::RuleResponse {
+        } => step_to(Phase::RuleResponse {
             request,
             head,
             place: place + 1,
@@ -81,12 +82,12 @@ fn continued_step(phase: Phase, fields: Fields) -> Step
             answer,
             place,
             fields: _none,
-        } => go_to(Phase::RuleAnswer {
+        } => step_to(Phase::RuleAnswer {
             answer,
             place: place + 1,
             fields,
         }),
-        _other => Step::LACKS,
+        _other => unreachable!(),
     }
 }
 
@@ -95,11 +96,12 @@ fn denied(request: Request) -> Step
     ensures { result ≡ record { phase = Phase.SendResponseHdr (denial_of request); next = Next.Go } }
 {
     let answer = answer_to(&request, OwnStatus::Forbidden, TxnEnd::Whole);
-    go_to(Phase::SendResponseHdr { answer })
+    step_to(Phase::SendResponseHdr { answer })
 }
 
 // A plugin answered with an error: no response is sent yet where the request is denied for that.
 fn refused_step(phase: Phase, fields: Fields) -> Step
+    requires asks { AsksPlugins phase }
     requires room { place_in phase < most_places }
     ensures { result ≡ refused_step phase fields }
 {
@@ -112,6 +114,7 @@ fn refused_step(phase: Phase, fields: Fields) -> Step
 
 // A plugin replied.
 fn replied_step(phase: Phase, reply: HookReply) -> Step
+    requires asks { AsksPlugins phase }
     requires room { place_in phase < most_places }
     ensures { result ≡ replied_step phase reply.answer reply.fields }
 {
@@ -127,6 +130,7 @@ fn replied_step(phase: Phase, reply: HookReply) -> Step
 /// answer; a group that was missed is asked again later; and want of memory, here or of the plugin, ends the
 /// transaction.
 pub fn told_step(phase: Phase, asked: Asked<HookQuestion, HookReply>) -> Step
+    requires asks { AsksPlugins phase }
     requires room { place_in phase < most_places }
     ensures { result ≡ told_step phase asked }
 {

@@ -22,7 +22,7 @@ pub struct Plugin {
     pub(crate) line: PluginLine,
 }
 
-/// What a slot promises of the plugin in it. The line is for contracts alone, and takes no memory.
+/// What a slot promises of the plugin in it, which is its first tenant. The line is for contracts alone, and takes no memory.
 #[derive(Drop)]
 pub struct PluginTag {
     /// The line that it was made of.
@@ -79,7 +79,7 @@ impl World for Plugin {
 
     ghost only_asked = { λ tag. true };
 
-    ghost is_first = { λ tag. false };
+    ghost is_first = { λ tag. true };
 
     ghost begun = { λ old new. new ≡ old };
 

@@ -9,7 +9,8 @@ use ts_wire::Fields;
 pub struct HookQuestion {
     /// The hook that the transaction has come to.
     pub hook: Hook,
-    /// The request's host as plugins see it: in lower case, without a port.
+    /// The request's host as plugins see it: in lower case, without a port. It is empty for an answer of the
+    /// proxy's own, which keeps no request.
     pub host: Octets,
     /// The fields of the head that is about to be sent; none at a hook that sends none.
     pub fields: Fields,

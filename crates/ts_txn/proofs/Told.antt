@@ -30,8 +30,8 @@ use Rattle.ts_plugin.specs.declared.question.HookQuestion.{HookQuestion}
 use Rattle.ts_plugin.specs.declared.question.HookReply.{HookReply}
 use Rattle.ts_plugin.specs.declared.question.PluginFault.{PluginFault}
 use Rattle.ts_plugin.proofs.HookLines.{next_within}
-use Rattle.ts_phases.specs.Asking.{AsksFor, IsRightReply, asked_phase, continued_step, most_places, place_in}
-use Rattle.ts_phases.specs.Asking.{question_in, refused_step, replied_step, told_step}
+use Rattle.ts_phases.specs.Asking.{AsksFor, AsksPlugins, IsRightReply, asked_phase, continued_step}
+use Rattle.ts_phases.specs.Asking.{most_places, place_in, question_in, refused_step, replied_step, told_step}
 use Rattle.ts_phases.specs.Cover.{StepLeads, set_after}
 use Rattle.ts_phases.specs.Lowering.{ToldLowers, if_told, number_left, work_left}
 use Rattle.ts_phases.specs.View.{OriginRefuses, View, upload_of, view_of}
@@ -102,6 +102,15 @@ place_of (P.RuleRequest q k fields) question e is = ap (λ (d : ℕ × HookQuest
 place_of (P.RuleResponse q h k fields) question e is = ap (λ (d : ℕ × HookQuestion). d.0) (some_same _ e is)
 place_of (P.RuleAnswer a k fields) question e is = ap (λ (d : ℕ × HookQuestion). d.0) (some_same _ e is)
 place_of _ question e is = absurd (cc)
+
+-- in which plugins are asked
+asks_of : (p : Phase) (question : HookQuestion) (e : ℕ × HookQuestion)
+    → question_in (asked_phase p question) ≡ Some e → AsksPlugins p
+asks_of (P.OsDns q k) question e is = tt
+asks_of (P.RuleRequest q k fields) question e is = tt
+asks_of (P.RuleResponse q h k fields) question e is = tt
+asks_of (P.RuleAnswer a k fields) question e is = tt
+asks_of _ question e is = absurd (cc)
 
 -- and no hook has more plugins than there are lines
 few_at : (hook : Hook) (lines : List PluginLine) → length (lines_at hook lines) ≤ length lines
@@ -232,6 +241,10 @@ module _ {C O Q : Type 0} (client : link.Ghosts C) (origin : link.Ghosts O) (bot
     awaits : AwaitsNow client origin both stage core main (K.Phased p) a waits.group waits.question
     awaits = subst (λ x. AwaitsNow client origin both stage core main x a waits.group waits.question) is
         waits.asking
+
+    -- in which plugins are asked
+    pub asks_told : AsksPlugins p
+    asks_told = asks_of p waits.question (awaits.asks.place, waits.question) awaits.asks.asked
 
     -- whose place is one that is counted
     pub room_told : place_in p < most_places

@@ -1,6 +1,8 @@
--- What a transaction sends, header rules included, where both links tell: one request to its origin, and one
--- response to its client (RFC 9112, sections 2 to 7).
+-- What a transaction sends, header rules included, where both links tell: one request to its origin, and then
+-- one response to its client (RFC 9112, sections 2 to 7).
 use Rattle.std.specs.Prelude.{◌≡◌, ◌≢◌, ◌++◌, ℕ, ◌≤◌, List, [], length, Bool, true, All}
+use Rattle.std.specs.Arc.{arc_value}
+use Rattle.ts_config.specs.declared.setup.Setup.{Setup}
 use Rattle.ts_link.specs.Link.{all_of}
 use Rattle.ts_link.specs.declared.link.Link as link
 use Rattle.ts_wire.specs.Frames.{IsPiece, cut_body, frames}
@@ -9,18 +11,20 @@ use Rattle.ts_wire.specs.declared.frames.Mode.{Mode}
 use Rattle.ts_wire.specs.declared.heads.RequestHead.{RequestHead}
 use Rattle.ts_wire.specs.declared.printed.ClientFraming.{ClientFraming}
 use Rattle.ts_wire.specs.declared.printed.ClientFraming.TheVariants as C
+use Rattle.ts_block.specs.Block.{IsRequestOf}
 use Rattle.ts_block.specs.Heads.{HasRequest}
 use Rattle.ts_block.specs.Relayed.{asks_head}
-use Rattle.ts_block.specs.Sent.{IsAnswer, IsAsked}
+use Rattle.ts_block.specs.Sent.{IsOneResponse, IsClientRequest}
+use Rattle.ts_phases.specs.Facts.{Quiet, TookExactly}
 use Rattle.ts_phases.specs.Holding.{IfTold}
-use Rattle.ts_phases.specs.View.{LinkSide, View, view_of}
+use Rattle.ts_phases.specs.View.{HasFailed, LinkSide, View, view_of}
 use Rattle.ts_txn.specs.declared.txn.Txn.{Txn}
 
 -- What the origin's link took, with what waits for it, is nothing, or the one request that the client's bytes
 -- begin with, and what an upload wrote behind it, once all of the request was taken.
 pub data TakesOneRequest (client : List ℕ) (origin : LinkSide) : Type 0 where
   nothing : origin.look.taken ≡ [] → origin.outbox ≡ [] → TakesOneRequest client origin
-  request : (text upload : List ℕ) → IsAsked client text
+  request : (text upload : List ℕ) → IsClientRequest client text
       → origin.look.taken ++ origin.outbox ≡ text ++ upload → (origin.outbox ≢ [] → upload ≡ [])
       → TakesOneRequest client origin
 
@@ -38,7 +42,7 @@ pub record IsBodyOf (client : List ℕ) (status : ℕ) (said : ClientFraming) (p
 -- its body, framed as that head says.
 pub data TakesOneResponse (client : LinkSide) (mode : Mode) : Type 0 where
   nothing : client.look.taken ≡ [] → client.outbox ≡ [] → TakesOneResponse client mode
-  response : (head : List ℕ) (pieces : List (List ℕ)) (fin : Bool) → (answer : IsAnswer mode head)
+  response : (head : List ℕ) (pieces : List (List ℕ)) (fin : Bool) → (answer : IsOneResponse mode head)
       → IsBodyOf (all_of client.look) answer.status answer.framing pieces
       → client.look.taken ++ client.outbox ≡ head ++ frames mode pieces fin → TakesOneResponse client mode
 
@@ -49,3 +53,22 @@ pub record LinksTakeOnce (v : View) : Type 0 where
 -- the same of a transaction whose links tell
 abbrev pub TxnSendsOnce : {C O Q : Type 0} → link.Ghosts C → link.Ghosts O → Txn C O Q → Type 0
 TxnSendsOnce client origin t = IfTold client.tells origin.tells (LinksTakeOnce (view_of client origin t.core))
+
+-- The request that the client's bytes say stands at the origin: its link took it whole, with what an upload
+-- wrote behind it, and nothing waits for that link.
+pub record RequestStands (setup : Setup) (v : View) : Type 0 where
+  pub request : List ℕ
+  pub is_request : IsRequestOf setup v.dialed (all_of v.client.look) request
+  pub took : TookExactly request v.origin
+
+-- Nothing was queued for the client, or the origin's link failed while the transaction held it; or else, once
+-- a head was queued, the request stands at the origin, also where the client's link takes no more.
+pub data SendsRequestFirst (setup : Setup) (v : View) : Type 0 where
+  quiet : Quiet v.client v.sent → SendsRequestFirst setup v
+  failed : HasFailed v.origin → SendsRequestFirst setup v
+  stands : RequestStands setup v → SendsRequestFirst setup v
+
+-- so it is with a transaction whose links tell
+abbrev pub TxnSendsRequestFirst : {C O Q : Type 0} → link.Ghosts C → link.Ghosts O → Txn C O Q → Type 0
+TxnSendsRequestFirst client origin t = IfTold client.tells origin.tells
+    (SendsRequestFirst (arc_value t.core.setup) (view_of client origin t.core))

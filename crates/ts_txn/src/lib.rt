@@ -17,8 +17,6 @@ pub use making::{MOST_GROUPS, MOST_PLUGINS, TxnParts};
 pub use mem_net::MemNet;
 pub use net::{Accepted, Began, Dialed, Net, NetCounts};
 pub use retired::Retired;
-pub use ts_block::{
-    Block, OwnStatus, acts_on, apply_rules, block_of, client_framing, is_denied, one_block,
-};
+pub use ts_block::{Block, OwnStatus, acts_on, block_of, one_block};
 pub use ts_relay::MAIN;
 pub use txn::{Txn, TxnTag};

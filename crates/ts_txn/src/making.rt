@@ -13,7 +13,7 @@ ghost use Rattle.ts_relay.specs.Entering.{ActsAsLines};
 ghost use Rattle.ts_txn.specs.Making.{ArePaired, IsMadeOf, IsMadeOfIf, IsNewLink, IsNewLinkIf, IsTxnSetup};
 ghost use Rattle.ts_txn.specs.Making.{base_if, end_of_course, end_of_phase, link_if};
 ghost use Rattle.ts_txn.specs.Resting.{HasEndedSo, RestsWithBlock};
-ghost use Rattle.ts_txn.specs.Sending.{TxnSendsOnce};
+ghost use Rattle.ts_txn.specs.Sending.{TxnSendsOnce, TxnSendsRequestFirst};
 ghost use Rattle.ts_txn.specs.World.{IsSoundTxn};
 
 use crate::course::Course;
@@ -143,7 +143,8 @@ impl<C: Link + Drop, O: Upstream<C> + Drop, P: Transform<Line = TransformLine> +
     /// started has ended, or the event numbers are used up. Whether the links tell or not, it ended for the
     /// fault of one only where that one has failed since the transaction was made. Where both links tell, what
     /// a transaction sends, header rules included, is one request to its origin and one response to its client
-    /// at most.
+    /// at most; and once a head was queued for the client, the request stands whole at the origin and nothing
+    /// waits for it, unless the origin's link failed.
     pub fn end(&self) -> Option<TxnEnd>
         ensures end { result ≡ end_of_course self.now.course }
         ensures rests { result ≡ None → is_fresh_on self.now.course ≡ false → (next : ℕ) (roles : List Named)
@@ -168,6 +169,10 @@ impl<C: Link + Drop, O: Upstream<C> + Drop, P: Transform<Line = TransformLine> +
             → IsSoundTxn C.Link O.Link O.Upstream.own P.Transform
             self.now pending next roles
             → TxnSendsOnce C.Link O.Link self.now }
+        ensures first { (pending : List Pending) (next : ℕ) (roles : List Named)
+            → IsSoundTxn C.Link O.Link O.Upstream.own P.Transform
+            self.now pending next roles
+            → TxnSendsRequestFirst C.Link O.Link self.now }
     {
         end_of_course(&self.course)
     }

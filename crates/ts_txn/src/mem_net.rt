@@ -1,7 +1,6 @@
 //! A net in memory.
 ghost use Rattle.std.specs.Prelude.{◌≡◌, true, OnOk, OnErr};
 ghost use Rattle.std.specs.List.{All};
-ghost use Rattle.ts_link.specs.Numbered.{is_listed};
 ghost use Rattle.ts_txn.specs.MemNet.{accept_answer, after_accept, after_dial, after_retire, dial_answer};
 ghost use Rattle.ts_txn.specs.MemNet.{fresh_net, seen_of};
 ghost use Rattle.ts_txn.specs.Net.{CountsRise, GivesClient, GivesNobody, GivesOrigin, IsFreshNet, IsHanded};
@@ -14,7 +13,7 @@ use crate::pair_stock::PairStock;
 use crate::retired::Retired;
 use std::alloc::Global;
 use std::marker::Model;
-use ts_link::{MemLink, NoMemory};
+use ts_link::{MemLink, NoMemory, is_listed};
 
 /// A net in memory: it gives links in memory in their order, fails or has its caller wait exactly where it
 /// was told to, and keeps what it is handed.
@@ -40,16 +39,6 @@ impl Model for MemNet {
       retired = s.retired.items;
       counts = s.counts;
     } };
-}
-
-// Whether the accept call after so many has a number of the list.
-fn is_listed(made: u64, numbers: &[u64]) -> bool
-    ensures { result ≡ is_listed made numbers.now }
-{
-    match made.checked_add(1) {
-        Some(number) => numbers.contains(&number),
-        None => false,
-    }
 }
 
 impl MemNet {

@@ -4,7 +4,6 @@ use Rattle.std.specs.Arc.{arc_value}
 use Rattle.ts_phases.specs.Leading.{LeadsTo}
 use Rattle.ts_phases.specs.View.{upload_of, view_of}
 use Rattle.ts_phases.specs.declared.phase.Led.TheVariants as L
-use Rattle.ts_phases.specs.declared.phase.Next.TheVariants as N
 use Rattle.ts_phases.specs.declared.phase.Phase.TheVariants as P
 use Rattle.ts_phases.proofs.Leading.{deny_begins, ends, goes, holds_at, led_by, led_step}
 use Rattle.ts_phases.proofs.LoweringStands.{checked_lowers, fresh_lowers, heard_lowers, start_lowers}
@@ -17,7 +16,7 @@ pub returns-in-Fresh : goal.returns-in-Fresh
 returns-in-Fresh g c =
     let t = c.args.self.now in
     led_by g.C.Link g.O.Link g.O.Upstream t t c.in-Fresh.is
-    (ap (λ s. L.Steps s) c.go_to.ensures)
+    (ap (λ s. L.Steps s) c.step_to.ensures)
     (goes g.C.Link g.O.Link g.O.Upstream t P.Fresh P.TxnStart tt
     (holds_at g.C.Link g.O.Link g.O.Upstream t c.in-Fresh.is c.requires.stands.0) tt (stood _ _ _ refl)
     (fresh_lowers _ _ (arc_value t.setup) (view_of g.C.Link g.O.Link t) (upload_of g.O.Upstream t))
@@ -27,7 +26,7 @@ pub returns-in-TxnStart : goal.returns-in-TxnStart
 returns-in-TxnStart g c =
     let t = c.args.self.now in
     led_by g.C.Link g.O.Link g.O.Upstream t t c.in-TxnStart.is
-    (ap (λ s. L.Steps s) c.go_to-in-TxnStart.ensures)
+    (ap (λ s. L.Steps s) c.step_to-in-TxnStart.ensures)
     (goes g.C.Link g.O.Link g.O.Upstream t P.TxnStart P.ReadRequest tt
     (holds_at g.C.Link g.O.Link g.O.Upstream t c.in-TxnStart.is c.requires.stands.0) tt (stood _ _ _ refl)
     (start_lowers _ _ (arc_value t.setup) (view_of g.C.Link g.O.Link t) (upload_of g.O.Upstream t))
@@ -38,7 +37,7 @@ returns-in-ReadRequestHdr g c =
     let t = c.args.self.now in
     let q = c.in-ReadRequestHdr.request in
     led_by g.C.Link g.O.Link g.O.Upstream t t c.in-ReadRequestHdr.is
-    (ap (λ s. L.Steps s) c.go_to-in-ReadRequestHdr.ensures)
+    (ap (λ s. L.Steps s) c.look_up.ensures)
     (goes g.C.Link g.O.Link g.O.Upstream t (P.ReadRequestHdr q) (P.OsDns q 0) tt
     (λ told also. deny_begins (arc_value t.setup) (view_of g.C.Link g.O.Link t) q
     (holds_at g.C.Link g.O.Link g.O.Upstream t c.in-ReadRequestHdr.is c.requires.stands.0 told also))
@@ -52,7 +51,7 @@ returns-in-ReadResponseHdr g c =
     let q = c.in-ReadResponseHdr.request in
     let h = c.in-ReadResponseHdr.head in
     led_by g.C.Link g.O.Link g.O.Upstream t t c.in-ReadResponseHdr.is
-    (ap (λ s. L.Steps s) c.go_to-in-ReadResponseHdr.ensures)
+    (ap (λ s. L.Steps s) c.choose_transforms.ensures)
     (goes g.C.Link g.O.Link g.O.Upstream t (P.ReadResponseHdr q h) (P.ResponseTransform q h) tt
     (holds_at g.C.Link g.O.Link g.O.Upstream t c.in-ReadResponseHdr.is c.requires.stands.0) (refl, refl)
     (stood _ _ _ refl)
@@ -121,8 +120,7 @@ returns-in-TxnClose g c =
 pub returns-in-Ended : goal.returns-in-Ended
 returns-in-Ended g c =
     let t = c.args.self.now in
-    led_step g.C.Link g.O.Link g.O.Upstream t t
-    (record { phase = P.Ended c.in-Ended.end; next = N.Done }) c.in-Ended.is
+    led_by g.C.Link g.O.Link g.O.Upstream t t c.in-Ended.is (ap (λ s. L.Steps s) c.ended.ensures)
     (ends g.C.Link g.O.Link g.O.Upstream t (P.Ended c.in-Ended.end) c.in-Ended.end
     (holds_at g.C.Link g.O.Link g.O.Upstream t c.in-Ended.is c.requires.stands.0) refl (stood _ _ _ refl)
     (λ has. has))

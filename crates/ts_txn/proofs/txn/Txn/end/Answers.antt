@@ -2,7 +2,7 @@
 use Rattle.std.proofs.Common.{sym, ◌∙◌}
 use Rattle.ts_txn.proofs.Handling.{at_rest}
 use Rattle.ts_txn.proofs.Resting.{ended_for_cause, ended_so, rests_with_block}
-use Rattle.ts_txn.proofs.Sending.{sends_once}
+use Rattle.ts_txn.proofs.Sending.{sends_once, sends_request_first}
 use Rattle.ts_txn.proofs.txn.Txn.end.Goals as goal
 
 pub returns-clause-rests : goal.returns-clause-rests
@@ -27,3 +27,7 @@ returns-clause-block g c = λ next roles sound.
 pub returns-clause-once : goal.returns-clause-once
 returns-clause-once g c = λ pending next roles sound.
     sends_once g.C.Link g.O.Link g.O.Upstream g.P.Transform c.args.self.now pending next roles sound
+
+pub returns-clause-first : goal.returns-clause-first
+returns-clause-first g c = λ pending next roles sound.
+    sends_request_first g.C.Link g.O.Link g.O.Upstream g.P.Transform c.args.self.now pending next roles sound

@@ -1,6 +1,6 @@
 -- A transaction is told what came of its question, and stands again.
 use Rattle.std.proofs.Common.{refl, sym, ◌∙◌}
-use Rattle.ts_txn.proofs.Told.{asks_phased, room_told, told_due, told_led, hears_falls, told_sound}
+use Rattle.ts_txn.proofs.Told.{asks_phased, asks_told, room_told, told_due, told_led, hears_falls, told_sound}
 use Rattle.ts_txn.proofs.Told.{told_started, told_within}
 use Rattle.ts_txn.proofs.txn.TxnWorld.told.Goals as goal
 
@@ -12,6 +12,9 @@ unreachable-requires g c =
 
 pub told_step-step-requires : goal.told_step-step-requires
 told_step-step-requires g c = record {
+  asks = asks_told g.C.Link g.O.Link g.O.Upstream g.P.Transform c.args.self.now.core c.args.self.now.main
+      c.args.self.now.course c.args.cx.now c.args.asked c.requires.asking c.in-Phased.phase
+      (sym c.replace-was.ensures.value ∙ c.in-Phased.is);
   room = room_told g.C.Link g.O.Link g.O.Upstream g.P.Transform c.args.self.now.core c.args.self.now.main
       c.args.self.now.course c.args.cx.now c.args.asked c.requires.asking c.in-Phased.phase
       (sym c.replace-was.ensures.value ∙ c.in-Phased.is);
