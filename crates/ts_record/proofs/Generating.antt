@@ -1,17 +1,20 @@
 -- How a recording is generated, a step of each loop at a time.
 use Rattle.std.proofs.Common.{◌≡◌, ℕ, zero, suc, ◌+◌, ◌-◌, ◌%◌, ◌<◌, ◌≤◌, List, [], ◌∷◌, ◌++◌, length}
 use Rattle.std.proofs.Common.{take, drop}
-use Rattle.std.proofs.Common.{min, refl, sym, ap, subst, ◌∙◌, arith, append_assoc}
+use Rattle.std.proofs.Common.{min, inl, refl, sym, ap, subst, ◌∙◌, arith, append_assoc}
 use Rattle.std.specs.List.{AllByRecursion}
 use Rattle.std.proofs.lemmas.List.{append-nil, length-drop, length-take, take_min, drop_min}
+use Rattle.ts_link.specs.Inputs.{stalled_reads}
+use Rattle.ts_link.specs.declared.piece.Piece.{Piece}
+use Rattle.ts_link.specs.declared.piece.Piece.TheVariants.{Bytes}
 use Rattle.ts_wire.specs.Frames.{chunk_text}
 use Rattle.ts_record.specs.declared.generator.DrawnFraming.{DrawnFraming}
 use Rattle.ts_record.specs.Generator.{after, body_at, chunk_length, chunks_by, cut_from, framing_at}
 use Rattle.ts_record.specs.Generator.{framing_by, generated, letter, most_sent}
 use Rattle.ts_record.specs.Generator.{length_at, letters, next, pieces, pieces_by, response}
 use Rattle.ts_record.specs.Generator.{sent_at_once, txn_after, txn_at}
-use Rattle.ts_record.specs.Grammar.{IsRecordedPiece, IsTxn, KeepsLimits, TxnPieces}
-use Rattle.ts_record.specs.declared.recording.TheConstants.{MOST_TXNS}
+use Rattle.ts_record.specs.Grammar.{IsItem, IsTxn, KeepsLimits, TxnPieces, contents, stalls_in}
+use Rattle.ts_record.specs.declared.recording.TheConstants.{FIRST_VERSION, MOST_TXNS}
 
 -- of so many, one is left more than behind it
 one_more : (count n : ℕ) → n < count → count - n ≡ suc (count - (n + 1))
@@ -88,24 +91,24 @@ same_pieces (suc k) (suc m) x [] p q = refl
 same_pieces (suc k) (suc m) x (b ∷ bs) p q =
     let n : ℕ = sent_at_once (next x) in
     let left = length-drop n (b ∷ bs) in
-    ap (λ t. take n (b ∷ bs) ∷ t)
+    ap (λ t. Bytes (take n (b ∷ bs)) ∷ t)
     (same_pieces k m (next x) (drop n (b ∷ bs)) (omega (arith, left, p)) (omega (arith, left, q)))
 
 -- bytes in pieces begin with the first piece
 first_piece : (x : ℕ) (bytes : List ℕ) → 0 < length bytes
     → pieces x bytes
-    ≡ take (sent_at_once (next x)) bytes ∷ pieces (next x) (drop (sent_at_once (next x)) bytes)
+    ≡ Bytes (take (sent_at_once (next x)) bytes) ∷ pieces (next x) (drop (sent_at_once (next x)) bytes)
 first_piece x [] some = absurd (omega (arith, some))
 first_piece x (b ∷ bs) some =
     let n : ℕ = sent_at_once (next x) in
     let behind : List ℕ = drop n (b ∷ bs) in
     let left = length-drop n (b ∷ bs) in
-    ap (λ t. take n (b ∷ bs) ∷ t)
+    ap (λ t. Bytes (take n (b ∷ bs)) ∷ t)
     (same_pieces (length bs) (length behind) (next x) behind (omega (arith, left)) (omega arith))
 
 -- So many bytes are cut and so many are left, in this state: those with the pieces of what is left are all
 -- pieces, and the draws for what is left lead to the state behind all.
-pub record IsCutTo (x : ℕ) (bytes : List ℕ) (cut : List (List ℕ)) (y : ℕ) (left : List ℕ) : Type 0 where
+pub record IsCutTo (x : ℕ) (bytes : List ℕ) (cut : List Piece) (y : ℕ) (left : List ℕ) : Type 0 where
   pub pieces_are : cut ++ pieces y left ≡ pieces x bytes
   pub state_is : after (length (pieces y left)) y ≡ after (length (pieces x bytes)) x
 
@@ -114,15 +117,15 @@ pub cut_none : (x : ℕ) (bytes : List ℕ) → IsCutTo x bytes [] x bytes
 cut_none x bytes = record { pieces_are = refl; state_is = refl }
 
 -- one piece more
-pub piece_more : (x y y' : ℕ) (bytes left left' piece : List ℕ) (cut cut' : List (List ℕ)) → 0 < length left
+pub piece_more : (x y y' : ℕ) (bytes left left' piece : List ℕ) (cut cut' : List Piece) → 0 < length left
     → y' ≡ next y → piece ≡ take (sent_at_once y') left → left' ≡ drop (sent_at_once y') left
-    → cut' ≡ cut ++ piece ∷ [] → IsCutTo x bytes cut y left → IsCutTo x bytes cut' y' left'
+    → cut' ≡ cut ++ Bytes piece ∷ [] → IsCutTo x bytes cut y left → IsCutTo x bytes cut' y' left'
 piece_more x y y' bytes left left' piece cut cut' some state piece_is left_is push so_far =
     subst (λ s. IsCutTo x bytes cut' s left') (sym state) (record {
       pieces_are =
-          ap (λ t. t ++ pieces (next y) left') (push ∙ ap (λ p. cut ++ p ∷ []) front)
-          ∙ ap (λ l. (cut ++ take (sent_at_once (next y)) left ∷ []) ++ pieces (next y) l) back
-          ∙ append_assoc cut (take (sent_at_once (next y)) left ∷ [])
+          ap (λ t. t ++ pieces (next y) left') (push ∙ ap (λ p. cut ++ Bytes p ∷ []) front)
+          ∙ ap (λ l. (cut ++ Bytes (take (sent_at_once (next y)) left) ∷ []) ++ pieces (next y) l) back
+          ∙ append_assoc cut (Bytes (take (sent_at_once (next y)) left) ∷ [])
           (pieces (next y) (drop (sent_at_once (next y)) left))
           ∙ ap (λ t. cut ++ t) (sym (first_piece y left some)) ∙ so_far.pieces_are;
       state_is =
@@ -176,7 +179,7 @@ sent_some : (x : ℕ) → (1 ≤ sent_at_once x) × (sent_at_once x ≤ most_sen
 sent_some x = (omega arith, omega arith)
 
 -- each piece has the length of one
-small_pieces : (k x : ℕ) (bytes : List ℕ) → AllByRecursion IsRecordedPiece (pieces_by k x bytes)
+small_pieces : (k x : ℕ) (bytes : List ℕ) → AllByRecursion IsItem (pieces_by k x bytes)
 small_pieces zero x bytes = tt
 small_pieces (suc k) x [] = tt
 small_pieces (suc k) x (b ∷ bs) =
@@ -192,17 +195,36 @@ count_txns : (count size x : ℕ) → length (generated count size x) ≡ count
 count_txns zero size x = refl
 count_txns (suc n) size x = ap suc (count_txns n size (txn_after size x))
 
-each_txn : (count size x : ℕ) → AllByRecursion IsTxn (generated count size x)
+-- none of them is a stall
+no_stalls : (k x : ℕ) (bytes : List ℕ) → stalled_reads (pieces_by k x bytes) ≡ 0
+no_stalls zero x bytes = refl
+no_stalls (suc k) x [] = refl
+no_stalls (suc k) x (b ∷ bs) = no_stalls k (next x) (drop (sent_at_once (next x)) (b ∷ bs))
+
+each_txn : (count size x : ℕ) → AllByRecursion (IsTxn FIRST_VERSION) (generated count size x)
 each_txn zero size x = tt
 each_txn (suc n) size x =
     let bytes : List ℕ = response (framing_at x) (body_at size x) in (
-      (((omega arith, omega arith), tt), small_pieces (length bytes) (cut_from size x) bytes),
+      record {
+        client = ((omega arith, omega arith), tt);
+        origin = small_pieces (length bytes) (cut_from size x) bytes;
+        leave = tt;
+      },
       each_txn n size (txn_after size x),
     )
 
+none_stall : (count size x : ℕ) → stalls_in (generated count size x) ≡ 0
+none_stall zero size x = refl
+none_stall (suc n) size x =
+    let bytes : List ℕ = response (framing_at x) (body_at size x) in
+    omega (arith, none_stall n size (txn_after size x), no_stalls (length bytes) (cut_from size x) bytes)
+
 -- what is generated is a recording
-pub keeps_limits : (count size x : ℕ) → count ≤ MOST_TXNS → KeepsLimits (generated count size x)
+pub keeps_limits : (count size x : ℕ) → count ≤ MOST_TXNS
+    → KeepsLimits (contents FIRST_VERSION (generated count size x))
 keeps_limits count size x few = record {
+  version = inl refl;
   few = omega (arith, few, count_txns count size x);
   each = each_txn count size x;
+  stalls = omega (arith, none_stall count size x);
 }

@@ -1,5 +1,6 @@
 -- Decimal numbers at the front of a text.
-use Rattle.std.proofs.Common.{◌≡◌, ℕ, ◌^◌, ◌<◌, ◌≤◌, ◌⊎◌, inl, inr, List, [], ◌∷◌, ◌++◌, length, take, ap, sym, ◌∙◌, subst, refl, arith, get_or, append_assoc, zero, suc}
+use Rattle.std.proofs.Common.{◌≡◌, ℕ, ◌^◌, ◌<◌, ◌≤◌, ◌⊎◌, inl, inr, List, [], ◌∷◌, ◌++◌, length, take, ap}
+use Rattle.std.proofs.Common.{sym, ◌∙◌, subst, refl, arith, get_or, append_assoc, zero, suc}
 use Rattle.std.specs.Fmt.{decimal}
 use Rattle.std.specs.Char.{digit_value}
 use Rattle.std.specs.Str.Parse.{AllDigits, digits_value}
@@ -7,9 +8,9 @@ use Rattle.std.proofs.Math.Seq.{take-append_seam}
 use Rattle.std.proofs.lemmas.Str.{digit_value_digit}
 use Rattle.std.proofs.lemmas.Int.Digits.{digits_value_push}
 use Rattle.std.proofs.lemmas.Fmt.{digits_decimal, digits_value-decimal, decimal_injective, first_decimal}
-use Rattle.std.proofs.lemmas.Str.Parse.{IsNumeralModel, numerals_by_value, tells_digits, digit_from_value, digits_value-take-le}
+use Rattle.std.proofs.lemmas.Str.Parse.{IsNumeralModel, numerals_by_value, tells_digits, digit_from_value}
+use Rattle.std.proofs.lemmas.Str.Parse.{digits_value-take-le}
 use Rattle.ts_record.specs.Refusing.{with_digit, DigitsStop, DigitsEnd}
-use Rattle.ts_record.specs.declared.recording.TheConstants.{MOST_PIECE}
 
 pub own : IsNumeralModel (AllDigits 10) (digits_value 10)
 own = numerals_by_value (AllDigits 10) tells_digits
@@ -55,11 +56,11 @@ pub digit_among : (ds more : List ℕ) (b : ℕ) → AllDigits 10 (ds ++ b ∷ m
 digit_among [] more b are = are.0
 digit_among (d ∷ ds) more b are = digit_among ds more b are.1
 
--- the digits of a number from 1 to a piece's most bytes go on where the digits so far stop no digit
-pub goes_on : (n value b : ℕ) (ds more bs : List ℕ) → 0 < n → n ≤ MOST_PIECE → digits_value 10 ds ≡ value
-    → (value ≡ 0 → ds ≡ [])
-    → decimal n ≡ ds ++ b ∷ more → DigitsStop value (b ∷ bs) → ⊥
-goes_on n value b ds more bs some within worth none is stop =
+-- the digits of a number from 1 to a limit go on where the digits so far stop no digit
+pub goes_on : (limit n value b : ℕ) (ds more bs : List ℕ) → limit < 2 ^ 64 → 0 < n → n ≤ limit
+    → digits_value 10 ds ≡ value → (value ≡ 0 → ds ≡ [])
+    → decimal n ≡ ds ++ b ∷ more → DigitsStop limit value (b ∷ bs) → ⊥
+goes_on limit n value b ds more bs below some within worth none is stop =
     either (stop digit)
   where
     small : n < 2 ^ 64
@@ -86,16 +87,17 @@ goes_on n value b ds more bs some within worth none is stop =
         ap (λ xs. get_or xs 0 0) (is ∙ ap (λ xs. xs ++ b ∷ more) (none nothing)) in
         omega (arith, lead, first_decimal n some small, digit_value_digit b (digit_from_value b digit))
 
-    either : ((with_digit value b ≡ 0) ⊎ (MOST_PIECE < with_digit value b)) → ⊥
+    either : ((with_digit value b ≡ 0) ⊎ (limit < with_digit value b)) → ⊥
     either (inl all) = let nothing : value ≡ 0 = omega arith in omega (arith, first nothing)
     either (inr above) = omega (arith, longer)
 
 -- the digits before the rest, and their worth
-pub are_digits : (bytes rest : List ℕ) (value : ℕ) → (d : DigitsEnd bytes value rest)
+pub are_digits : (limit : ℕ) (bytes rest : List ℕ) (value : ℕ) → limit < 2 ^ 64
+    → (d : DigitsEnd limit bytes value rest)
     → AllDigits 10 d.digits × (digits_value 10 d.digits ≡ value)
-are_digits bytes rest value d = cases value d.digits d.none d.number d.most
+are_digits limit bytes rest value below d = cases value d.digits d.none d.number d.most
   where
-    cases : (v : ℕ) (ds : List ℕ) → (v ≡ 0 → ds ≡ []) → (0 < v → ds ≡ decimal v) → v ≤ MOST_PIECE
+    cases : (v : ℕ) (ds : List ℕ) → (v ≡ 0 → ds ≡ []) → (0 < v → ds ≡ decimal v) → v ≤ limit
         → AllDigits 10 ds × (digits_value 10 ds ≡ v)
     cases zero ds none number most =
         (subst (AllDigits 10) (sym (none refl)) tt, ap (digits_value 10) (none refl))

@@ -1,16 +1,17 @@
 -- Where a text stops being the front of a piece behind its keyword.
-use Rattle.std.proofs.Common.{◌≡◌, ℕ, ◌-◌, ◌^◌, ◌<◌, ◌≤◌, ◌⊎◌, zero, suc, inl, inr, List, [], ◌∷◌, ◌++◌, length, ap, sym, ◌∙◌, subst, refl, arith, length-append, append_assoc}
+use Rattle.std.proofs.Common.{◌≡◌, ℕ, ◌-◌, ◌^◌, ◌<◌, ◌≤◌, List, [], ◌∷◌, ◌++◌, length, ap, sym, ◌∙◌, refl}
+use Rattle.std.proofs.Common.{arith}
+use Rattle.std.proofs.Common.{length-append, append_assoc}
 use Rattle.std.specs.Fmt.{decimal}
-use Rattle.std.specs.Str.Parse.{AllDigits}
 use Rattle.std.proofs.Math.ListN.{replicate}
 use Rattle.std.proofs.lemmas.List.{length-replicate, append-nil}
-use Rattle.std.proofs.lemmas.Fmt.{digits_decimal, decimal_nonempty}
 use Rattle.ts_lists.proofs.Fronts.{same_fronts}
 use Rattle.ts_record.specs.Grammar.{piece_before, IsRecordedPiece}
-use Rattle.ts_record.specs.Refusing.{Opens, Stuck, BreaksOff, IsPieceText, LacksFeed, DigitsStop, DigitsEnd}
+use Rattle.ts_record.specs.Refusing.{Opens, Stuck, BreaksOff, IsPieceText, LacksFeed, DigitsEnd}
 use Rattle.ts_record.specs.declared.recording.TheConstants.{MOST_PIECE}
-use Rattle.ts_record.proofs.Numbers.{own, same_number, longer_digits, digit_among, goes_on, are_digits}
-use Rattle.ts_record.proofs.Places.{piece_behind, some_piece}
+use Rattle.ts_record.proofs.NumberTexts.{BeginWithNumber}
+use Rattle.ts_record.proofs.Numbers.{same_number}
+use Rattle.ts_record.proofs.Texts.{piece_behind}
 
 -- a text that begins with a piece behind its keyword
 record Begins (bytes : List ℕ) : Type 0 where
@@ -33,63 +34,23 @@ begins bytes (token, behind, (piece, is, same), text) = record {
 abbrev filled : ℕ → List ℕ
 filled n = replicate n 97
 
--- no number, or no line feed behind it
-pub number_refused : (bytes rest : List ℕ) (value : ℕ) → DigitsEnd bytes value rest
-    → (value ≡ 0) ⊎ LacksFeed rest → BreaksOff IsPieceText bytes (length rest)
-number_refused bytes rest value d none = record {
-  front = d.digits;
-  rest = rest;
-  bytes_are = d.bytes_are;
-  left_is = refl;
-  begun = begun value d.digits d.none d.number d.most;
-  stuck = stuck rest d.ends none;
+-- the text of a piece begins with its length
+pub pieces_begin : BeginWithNumber MOST_PIECE IsPieceText
+pieces_begin = record {
+  some = some;
+  opens = λ z o. let b = begins z o in (length b.piece, b.piece ++ 10 ∷ b.behind, b.is.0, b.is.1, b.text);
 }
   where
-    begun : (v : ℕ) (ds : List ℕ) → (v ≡ 0 → ds ≡ []) → (0 < v → ds ≡ decimal v) → v ≤ MOST_PIECE
-        → (more : List ℕ) × IsPieceText (ds ++ more)
-    begun zero ds empty number most = (
-      piece_before [] some_piece,
-      (
-        some_piece,
-        (omega arith, omega arith),
-        ap (λ t. t ++ piece_before [] some_piece) (empty refl),
-      ),
-    )
-    begun (suc v) ds empty number most =
-        let long : length (filled (suc v)) ≡ suc v = length-replicate {A = ℕ} (suc v) 97 in (
-          10 ∷ (filled (suc v) ++ 10 ∷ []),
+    some : (n : ℕ) → 1 ≤ n → n ≤ MOST_PIECE → (tail : List ℕ) × IsPieceText (decimal n ++ 10 ∷ tail)
+    some n one most =
+        let long : length (filled n) ≡ n = length-replicate {A = ℕ} n 97 in (
+          filled n ++ 10 ∷ [],
           (
-            filled (suc v),
-            (omega arith, omega arith),
-            ap (λ t. t ++ 10 ∷ (filled (suc v) ++ 10 ∷ [])) (number (omega arith) ∙ ap decimal (sym long)),
+            filled n,
+            (omega (arith, long, one), omega (arith, long, most)),
+            ap (λ m. decimal m ++ 10 ∷ (filled n ++ 10 ∷ [])) (sym long),
           ),
         )
-
-    digits : AllDigits 10 d.digits
-    digits = (are_digits bytes rest value d).0
-
-    stuck : (xs : List ℕ) → DigitsStop value xs → (value ≡ 0) ⊎ LacksFeed xs
-        → Stuck (Opens IsPieceText) d.digits xs
-    stuck [] ends why = λ opens.
-        let b = begins d.digits opens in
-        let feed = digit_among (decimal (length b.piece)) (b.piece ++ 10 ∷ b.behind) 10
-        (subst (AllDigits 10) b.text digits) in absurd (omega arith)
-    stuck (x ∷ xs) ends why = λ more opens. follows more (begins (d.digits ++ x ∷ more) opens)
-      where
-        follows : (more : List ℕ) → Begins (d.digits ++ x ∷ more) → ⊥
-        follows more b =
-            either why (longer_digits (decimal (length b.piece)) d.digits (b.piece ++ 10 ∷ b.behind) more x
-            (digits_decimal own (length b.piece) b.small) digits (sym b.text))
-          where
-            either : (value ≡ 0) ⊎ LacksFeed (x ∷ xs)
-                → ((x ≡ 10) × (decimal (length b.piece) ≡ d.digits))
-                ⊎ ((rest : List ℕ) × (decimal (length b.piece) ≡ d.digits ++ x ∷ rest)) → ⊥
-            either why (inr (tail, same)) =
-                goes_on (length b.piece) value x d.digits tail xs b.is.0 b.is.1
-                (are_digits bytes rest value d).1 d.none same ends
-            either (inl nothing) (inl (feed, same)) =
-                omega (arith, decimal_nonempty (length b.piece) b.small, ap length (same ∙ d.none nothing))
-            either (inr lacks) (inl (feed, same)) = lacks xs (ap (λ y. y ∷ xs) feed)
 
 -- the number of a piece, and a line feed
 pub record Numbered (bytes : List ℕ) (value : ℕ) (inside : List ℕ) : Type 0 where
@@ -97,7 +58,7 @@ pub record Numbered (bytes : List ℕ) (value : ℕ) (inside : List ℕ) : Type 
   pub most : value ≤ MOST_PIECE
   pub text : bytes ≡ decimal value ++ 10 ∷ inside
 
-pub numbered : (bytes rest inside : List ℕ) (value : ℕ) → DigitsEnd bytes value rest → 0 < value
+pub numbered : (bytes rest inside : List ℕ) (value : ℕ) → DigitsEnd MOST_PIECE bytes value rest → 0 < value
     → rest ≡ 10 ∷ inside → Numbered bytes value inside
 numbered bytes rest inside value d some feed = record {
   some = some;

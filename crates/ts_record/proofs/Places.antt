@@ -1,197 +1,100 @@
--- The texts that can stand at each place of a recording, and what follows when a keyword or a piece was read
--- there.
-use Rattle.std.proofs.Common.{◌≡◌, ℕ, ◌+◌, ◌<◌, ◌≤◌, suc, List, [], ◌∷◌, ◌++◌, length, ap, sym, ◌∙◌, subst, refl, arith, append_assoc, lit≤}
+-- The texts that can stand at each place of a recording.
+use Rattle.std.proofs.Common.{◌≡◌, ℕ, ◌+◌, ◌-◌, ◌<◌, ◌≤◌, suc, List, [], ◌∷◌, ◌++◌, length, None, Some, ap}
+use Rattle.std.proofs.Common.{sym, ◌∙◌}
+use Rattle.std.proofs.Common.{subst, refl, arith, lit≤, Option}
 use Rattle.std.specs.List.{AllByRecursion}
-use Rattle.std.proofs.lemmas.List.{append_cancel_left}
-use Rattle.ts_record.specs.Grammar.{TxnPieces, piece_before, pieces_before, inside_before, txns_text, IsRecordedPiece, IsTxn, IsRecording}
-use Rattle.ts_record.specs.Keywords.{keyword_text}
+use Rattle.ts_link.specs.Inputs.{stalled_reads}
+use Rattle.ts_link.specs.declared.piece.Piece.{Piece}
+use Rattle.ts_link.specs.declared.piece.Piece.TheVariants.{Bytes, Stall}
+use Rattle.ts_record.specs.Grammar.{Contents, TxnPieces, piece_before, number_before, items_before}
+use Rattle.ts_record.specs.Grammar.{leave_before}
+use Rattle.ts_record.specs.Grammar.{txns_text, IsRecordedPiece, IsItem, IsTxn, MayLeave, IsRecording}
+use Rattle.ts_record.specs.Grammar.{stalls_in}
+use Rattle.ts_record.specs.Keywords.{keyword_text, LacksKeyword, piece_keyword, stall_keyword}
 use Rattle.ts_record.specs.declared.recording.TheConstants.{MOST_TXNS}
+use Rattle.ts_record.specs.declared.keyword.Keyword.{Keyword}
 use Rattle.ts_record.specs.declared.keyword.Keyword.TheVariants as k
-use Rattle.ts_record.proofs.Same.{close_not_client, close_not_origin, origin_not_client, end_not_txn, same_piece}
+use Rattle.ts_record.specs.declared.keyword.Side.{Side}
+use Rattle.ts_record.specs.declared.keyword.Side.TheVariants as side
+use Rattle.ts_record.proofs.Apart.{Differ, origin_not_client, origin_stall_not_client, leave_not_client}
+use Rattle.ts_record.proofs.Apart.{close_not_client, leave_not_origin, close_not_origin}
+
+-- ---- the places, from the outer to the inner ones
 
 -- whole recordings
 abbrev pub Recordings : List ℕ → Type 0
-Recordings z = (txns : List TxnPieces) × IsRecording z txns
+Recordings z = (r : Contents) × IsRecording z r
 
--- behind so many transactions
-abbrev pub Txns : ℕ → List ℕ → Type 0
-Txns count z = (ts : List TxnPieces) × (count + length ts ≤ MOST_TXNS) × AllByRecursion IsTxn ts
-    × (z ≡ txns_text ts)
+-- behind so many transactions of a version, where so many reads may still wait
+abbrev pub Txns : ℕ → ℕ → ℕ → List ℕ → Type 0
+Txns version count room z = (ts : List TxnPieces) × (count + length ts ≤ MOST_TXNS)
+    × AllByRecursion (IsTxn version) ts × (stalls_in ts ≤ room) × (z ≡ txns_text ts)
 
--- behind pieces of an origin, in the transaction behind so many
-abbrev pub Origins : ℕ → List ℕ → Type 0
-Origins count z = (origin : List (List ℕ)) × (y : List ℕ) × AllByRecursion IsRecordedPiece origin
-    × Txns (suc count) y × (z ≡ pieces_before k.Origin (keyword_text k.Close ++ y) origin)
+-- behind the line on a client that leaves, in the transaction behind so many
+abbrev pub Closes : ℕ → ℕ → ℕ → List ℕ → Type 0
+Closes version count room z =
+    (y : List ℕ) × Txns version (suc count) room y × (z ≡ keyword_text k.Close ++ y)
 
--- behind pieces of a client
-abbrev pub Clients : ℕ → List ℕ → Type 0
-Clients count z = (client : List (List ℕ)) × (y : List ℕ) × AllByRecursion IsRecordedPiece client
-    × Origins count y × (z ≡ pieces_before k.Client y client)
+-- behind the pieces and stalls of both sides
+abbrev pub Lasts : ℕ → ℕ → ℕ → List ℕ → Type 0
+Lasts version count room z = (leave : Option ℕ) × (y : List ℕ) × MayLeave version leave
+    × Closes version count room y × (z ≡ leave_before y leave)
+
+-- behind pieces and stalls of a side, behind all of which such texts stand
+abbrev pub Items : Side → (ℕ → List ℕ → Type 0) → ℕ → List ℕ → Type 0
+Items from Next room z = (items : List Piece) × (left : ℕ) × (y : List ℕ) × AllByRecursion IsItem items
+    × (left + stalled_reads items ≡ room) × Next left y × (z ≡ items_before from y items)
+
+-- of an origin
+abbrev pub Origins : ℕ → ℕ → ℕ → List ℕ → Type 0
+Origins version count = Items side.Origin (Lasts version count)
+
+-- of a client
+abbrev pub Clients : ℕ → ℕ → ℕ → List ℕ → Type 0
+Clients version count = Items side.Client (Origins version count)
 
 -- behind the keyword of a piece, behind which texts of this kind stand
 abbrev pub PieceTexts : (List ℕ → Type 0) → List ℕ → Type 0
 PieceTexts Next z = (piece : List ℕ) × (y : List ℕ) × IsRecordedPiece piece × Next y
     × (z ≡ piece_before y piece)
 
+-- behind the keyword of a number up to a limit, behind which texts of its own kind stand
+abbrev pub NumberTexts : ℕ → (ℕ → List ℕ → Type 0) → List ℕ → Type 0
+NumberTexts limit Next z = (n : ℕ) × (y : List ℕ) × (1 ≤ n) × (n ≤ limit) × Next n y
+    × (z ≡ number_before y n)
+
 -- behind the last line
 abbrev pub Nothing : List ℕ → Type 0
 Nothing z = z ≡ []
 
--- the first line
-pub to_header : (z : List ℕ) → Txns 0 z → Recordings (keyword_text k.Header ++ z)
-to_header z (ts, few, each, is) = (
-  ts,
-  record {
-    limits = record { few = omega arith; each = each };
-    text = ap (λ t. keyword_text k.Header ++ t) is;
-  },
-)
+-- ---- at each place some text can stand
 
-pub from_header : (z : List ℕ) → Recordings (keyword_text k.Header ++ z) → Txns 0 z
-from_header z (ts, is) = (
-  ts,
-  omega (arith, is.limits.few),
-  is.limits.each,
-  append_cancel_left (keyword_text k.Header) z (txns_text ts) is.text,
-)
+pub some_txns : (version count room : ℕ) → count ≤ MOST_TXNS → Txns version count room (keyword_text k.End)
+some_txns version count room within = ([], omega arith, tt, omega arith, refl)
 
--- the first line of a transaction
-pub to_txn : (count : ℕ) (z : List ℕ) → Clients count z → Txns count (keyword_text k.Txn ++ z)
-to_txn count z (client, y, each, (origin, x, also, (ts, few, all, end), inside), is) = (
-  (client, origin) ∷ ts,
-  omega arith,
-  ((each, also), all),
-  ap (λ t. keyword_text k.Txn ++ t) (is ∙ ap (λ t. pieces_before k.Client t client) (inside
-      ∙ ap (λ t. pieces_before k.Origin (keyword_text k.Close ++ t) origin) end)),
-)
+-- the last lines of a transaction and of a recording
+abbrev pub last_lines : List ℕ
+last_lines = keyword_text k.Close ++ keyword_text k.End
 
-pub from_txn : (count : ℕ) (z : List ℕ) → Txns count (keyword_text k.Txn ++ z) → Clients count z
-from_txn count z ([], few, each, is) = absurd (end_not_txn [] z (sym is))
-from_txn count z (t ∷ ts, few, each, is) = (
-  t.0,
-  pieces_before k.Origin (keyword_text k.Close ++ txns_text ts) t.1,
-  each.0.0,
-  (t.1, txns_text ts, each.0.1, (ts, omega arith, each.1, refl), refl),
-  append_cancel_left (keyword_text k.Txn) z (inside_before (txns_text ts) t.0 t.1) is,
-)
+pub some_closes : (version count room : ℕ) → count < MOST_TXNS → Closes version count room last_lines
+some_closes version count room within =
+    (keyword_text k.End, some_txns version (suc count) room (omega arith), refl)
 
--- the keyword of a client's piece
-pub to_client : (count : ℕ) (z : List ℕ) → PieceTexts (Clients count) z
-    → Clients count (keyword_text k.Client ++ z)
-to_client count z (piece, y, is, (client, x, each, rest, more), text) = (
-  piece ∷ client,
-  x,
-  (is, each),
-  rest,
-  ap (λ t. keyword_text k.Client ++ t) (text
-      ∙ ap (λ t. piece_before t piece) more),
-)
+pub some_lasts : (version count room : ℕ) → count < MOST_TXNS → Lasts version count room last_lines
+some_lasts version count room within = (None, last_lines, tt, some_closes version count room within, refl)
 
-pub from_client : (count : ℕ) (z : List ℕ) → Clients count (keyword_text k.Client ++ z)
-    → PieceTexts (Clients count) z
-from_client count z ([], y, each, ([], x, also, rest, more), text) =
-    absurd (close_not_client x z (sym (text ∙ more)))
-from_client count z ([], y, each, (p ∷ ps, x, also, rest, more), text) =
-    absurd (origin_not_client (piece_before (pieces_before k.Origin (keyword_text k.Close ++ x) ps) p) z
-    (sym (text ∙ more)))
-from_client count z (p ∷ ps, y, each, rest, text) = (
-  p,
-  pieces_before k.Client y ps,
-  each.0,
-  (ps, y, each.1, rest, refl),
-  append_cancel_left (keyword_text k.Client) z (piece_before (pieces_before k.Client y ps) p) text,
-)
+-- what stands behind a side stands there too where the side does nothing
+pub no_items : (from : Side) (Next : ℕ → List ℕ → Type 0) (room : ℕ) (z : List ℕ) → Next room z
+    → Items from Next room z
+no_items from Next room z next = ([], room, z, tt, omega arith, next, refl)
 
--- the keyword of an origin's piece, behind another one
-pub to_origin : (count : ℕ) (z : List ℕ) → PieceTexts (Origins count) z
-    → Origins count (keyword_text k.Origin ++ z)
-to_origin count z (piece, y, is, (origin, x, each, rest, more), text) = (
-  piece ∷ origin,
-  x,
-  (is, each),
-  rest,
-  ap (λ t. keyword_text k.Origin ++ t) (text
-      ∙ ap (λ t. piece_before t piece) more),
-)
+pub some_origins : (version count room : ℕ) → count < MOST_TXNS → Origins version count room last_lines
+some_origins version count room within =
+    no_items side.Origin (Lasts version count) room last_lines (some_lasts version count room within)
 
-pub from_origin : (count : ℕ) (z : List ℕ) → Origins count (keyword_text k.Origin ++ z)
-    → PieceTexts (Origins count) z
-from_origin count z ([], y, each, rest, text) = absurd (close_not_origin y z (sym text))
-from_origin count z (p ∷ ps, y, each, rest, text) = (
-  p,
-  pieces_before k.Origin (keyword_text k.Close ++ y) ps,
-  each.0,
-  (ps, y, each.1, rest, refl),
-  append_cancel_left (keyword_text k.Origin) z (piece_before
-      (pieces_before k.Origin (keyword_text k.Close ++ y) ps) p) text,
-)
-
--- the keyword of an origin's first piece
-pub to_first_origin : (count : ℕ) (z : List ℕ) → PieceTexts (Origins count) z
-    → Clients count (keyword_text k.Origin ++ z)
-to_first_origin count z bodies = ([], keyword_text k.Origin ++ z, tt, to_origin count z bodies, refl)
-
-pub from_first_origin : (count : ℕ) (z : List ℕ) → Clients count (keyword_text k.Origin ++ z)
-    → PieceTexts (Origins count) z
-from_first_origin count z ([], y, each, rest, text) =
-    from_origin count z (subst (Origins count) (sym text) rest)
-from_first_origin count z (p ∷ ps, y, each, rest, text) =
-    absurd (origin_not_client z (piece_before (pieces_before k.Client y ps) p) text)
-
--- a piece behind its keyword
-pub piece_behind : (piece behind : List ℕ) → piece_before [] piece ++ behind ≡ piece_before behind piece
-piece_behind piece behind = simp append_assoc
-
-pub to_piece : (Next : List ℕ → Type 0) (piece z : List ℕ) → IsRecordedPiece piece → Next z
-    → PieceTexts Next (piece_before [] piece ++ z)
-to_piece Next piece z is next = (piece, z, is, next, piece_behind piece z)
-
-pub from_piece : (Next : List ℕ → Type 0) (piece z : List ℕ) → IsRecordedPiece piece
-    → PieceTexts Next (piece_before [] piece ++ z) → Next z
-from_piece Next piece z is (other, y, also, next, text) =
-    subst Next (sym (same_piece piece other z y is also (sym (piece_behind piece z) ∙ text)).1) next
-
--- the last line of a transaction
-pub to_close : (count : ℕ) (z : List ℕ) → Txns (suc count) z → Origins count (keyword_text k.Close ++ z)
-to_close count z txns = ([], z, tt, txns, refl)
-
-pub from_close : (count : ℕ) (z : List ℕ) → Origins count (keyword_text k.Close ++ z) → Txns (suc count) z
-from_close count z ([], y, each, rest, text) =
-    subst (Txns (suc count)) (sym (append_cancel_left (keyword_text k.Close) z y text)) rest
-from_close count z (p ∷ ps, y, each, rest, text) =
-    absurd (close_not_origin z (piece_before (pieces_before k.Origin (keyword_text k.Close ++ y) ps) p) text)
-
--- the same, with no piece of an origin before it
-pub to_early_close : (count : ℕ) (z : List ℕ) → Txns (suc count) z → Clients count (keyword_text k.Close ++ z)
-to_early_close count z txns = ([], keyword_text k.Close ++ z, tt, to_close count z txns, refl)
-
-pub from_early_close : (count : ℕ) (z : List ℕ) → Clients count (keyword_text k.Close ++ z)
-    → Txns (suc count) z
-from_early_close count z ([], y, each, rest, text) =
-    from_close count z (subst (Origins count) (sym text) rest)
-from_early_close count z (p ∷ ps, y, each, rest, text) =
-    absurd (close_not_client z (piece_before (pieces_before k.Client y ps) p) text)
-
--- the last line
-pub to_end : (count : ℕ) (z : List ℕ) → count ≤ MOST_TXNS → Nothing z → Txns count (keyword_text k.End ++ z)
-to_end count z within nothing = ([], omega arith, tt, ap (λ t. keyword_text k.End ++ t) nothing)
-
-pub from_end : (count : ℕ) (z : List ℕ) → Txns count (keyword_text k.End ++ z) → Nothing z
-from_end count z ([], few, each, text) = append_cancel_left (keyword_text k.End) z [] text
-from_end count z (t ∷ ts, few, each, text) =
-    absurd (end_not_txn z (inside_before (txns_text ts) t.0 t.1) text)
-
--- at each place some text can stand
-pub some_txns : (count : ℕ) → count ≤ MOST_TXNS → Txns count (keyword_text k.End)
-some_txns count within = ([], omega arith, tt, refl)
-
-pub some_origins : (count : ℕ) → count < MOST_TXNS
-    → Origins count (keyword_text k.Close ++ keyword_text k.End)
-some_origins count within = to_close count (keyword_text k.End) (some_txns (suc count) (omega arith))
-
-pub some_clients : (count : ℕ) → count < MOST_TXNS
-    → Clients count (keyword_text k.Close ++ keyword_text k.End)
-some_clients count within = to_early_close count (keyword_text k.End) (some_txns (suc count) (omega arith))
+pub some_clients : (version count room : ℕ) → count < MOST_TXNS → Clients version count room last_lines
+some_clients version count room within =
+    no_items side.Client (Origins version count) room last_lines (some_origins version count room within)
 
 -- a piece of one byte
 abbrev pub some_piece : List ℕ
@@ -200,3 +103,43 @@ some_piece = 97 ∷ []
 pub some_piece_text : (Next : List ℕ → Type 0) (z : List ℕ) → Next z
     → PieceTexts Next (piece_before z some_piece)
 some_piece_text Next z next = (some_piece, z, (lit≤ tt, lit≤ tt), next, refl)
+
+-- ---- what stands behind a side begins with none of its keywords
+
+pub record AreApart (from : Side) (Next : ℕ → List ℕ → Type 0) : Type 0 where
+  pub piece : (room : ℕ) (z : List ℕ) → Next room z → LacksKeyword z (piece_keyword from)
+  pub stall : (room : ℕ) (z : List ℕ) → Next room z → LacksKeyword z (stall_keyword from)
+
+last_lacks : (keyword : Keyword) (version count room : ℕ) (z : List ℕ) → Differ k.Close keyword
+    → Differ k.Leave keyword → Lasts version count room z → LacksKeyword z keyword
+last_lacks keyword version count room z close leave (None, y, may, (x, txns, ends), text) =
+    λ behind same. close x behind (sym (text ∙ ends) ∙ same)
+last_lacks keyword version count room z close leave (Some m, y, may, closes, text) =
+    λ behind same. leave (number_before y m) behind (sym text ∙ same)
+
+origin_lacks : (keyword : Keyword) (version count room : ℕ) (z : List ℕ) → Differ k.Close keyword
+    → Differ k.Leave keyword → Differ k.Origin keyword → Differ k.OriginStall keyword
+    → Origins version count room z → LacksKeyword z keyword
+origin_lacks keyword version count room z close leave piece stall ([], left, y, each, stalls, last, text) =
+    λ behind same. last_lacks keyword version count left y close leave last behind (sym text ∙ same)
+origin_lacks keyword version count room z close leave piece stall
+    (Bytes p ∷ ps, left, y, each, stalls, last, text) =
+    λ behind same. piece (piece_before (items_before side.Origin y ps) p) behind (sym text ∙ same)
+origin_lacks keyword version count room z close leave piece stall
+    (Stall n ∷ ps, left, y, each, stalls, last, text) =
+    λ behind same. stall (number_before (items_before side.Origin y ps) n) behind (sym text ∙ same)
+
+pub lasts_apart : (version count : ℕ) → AreApart side.Origin (Lasts version count)
+lasts_apart version count = record {
+  piece = λ room z. last_lacks k.Origin version count room z close_not_origin.piece leave_not_origin.piece;
+  stall = λ room z. last_lacks k.OriginStall version count room z close_not_origin.stall
+      leave_not_origin.stall;
+}
+
+pub origins_apart : (version count : ℕ) → AreApart side.Client (Origins version count)
+origins_apart version count = record {
+  piece = λ room z. origin_lacks k.Client version count room z close_not_client.piece leave_not_client.piece
+      origin_not_client.piece origin_stall_not_client.piece;
+  stall = λ room z. origin_lacks k.ClientStall version count room z close_not_client.stall
+      leave_not_client.stall origin_not_client.stall origin_stall_not_client.stall;
+}

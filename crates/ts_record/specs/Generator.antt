@@ -2,9 +2,11 @@
 -- drawn comes from a linear congruential generator of 64 bits (multiplier and increment are those of Knuth's
 -- MMIX), of which a draw is the upper 31 bits.
 use Rattle.std.specs.Prelude.{ℕ, zero, suc, ◌+◌, ◌*◌, ◌/◌, ◌%◌, ◌^◌, List, [], ◌∷◌, ◌++◌}
-use Rattle.std.specs.Prelude.{length, take, drop, codes}
+use Rattle.std.specs.Prelude.{length, take, drop, codes, None}
 use Rattle.std.specs.Fmt.{decimal}
 use Rattle.ts_wire.specs.Frames.{chunk_text, last_chunk}
+use Rattle.ts_link.specs.declared.piece.Piece.{Piece}
+use Rattle.ts_link.specs.declared.piece.Piece.TheVariants.{Bytes}
 use Rattle.ts_record.specs.declared.generator.DrawnFraming.{DrawnFraming}
 use Rattle.ts_record.specs.declared.generator.DrawnFraming.TheVariants as D
 use Rattle.ts_record.specs.Grammar.{TxnPieces}
@@ -68,14 +70,15 @@ abbrev pub sent_at_once : ℕ → ℕ
 sent_at_once x = 1 + drawn x % most_sent
 
 -- bytes in pieces, one a draw, the last one as long as what is left; at most so many
-abbrev pub pieces_by : ℕ → ℕ → List ℕ → List (List ℕ)
+abbrev pub pieces_by : ℕ → ℕ → List ℕ → List Piece
 pieces_by zero x bytes = []
 pieces_by (suc k) x [] = []
 pieces_by (suc k) x (b ∷ bs) =
-    take (sent_at_once (next x)) (b ∷ bs) ∷ pieces_by k (next x) (drop (sent_at_once (next x)) (b ∷ bs))
+    Bytes (take (sent_at_once (next x)) (b ∷ bs))
+    ∷ pieces_by k (next x) (drop (sent_at_once (next x)) (b ∷ bs))
 
 -- bytes in pieces, until none is left
-abbrev pub pieces : ℕ → List ℕ → List (List ℕ)
+abbrev pub pieces : ℕ → List ℕ → List Piece
 pieces x bytes = pieces_by (length bytes) x bytes
 
 -- bytes in chunks, the rest in a last one, at most so many, and the end of the body
@@ -117,12 +120,12 @@ abbrev pub cut_from : ℕ → ℕ → ℕ
 cut_from size x = after (length_at size x) (next (next x))
 
 -- the pieces of its response
-abbrev pub origin_at : ℕ → ℕ → List (List ℕ)
+abbrev pub origin_at : ℕ → ℕ → List Piece
 origin_at size x = pieces (cut_from size x) (response (framing_at x) (body_at size x))
 
--- the transaction
+-- the transaction: no side stalls, and no client leaves
 abbrev pub txn_at : ℕ → ℕ → TxnPieces
-txn_at size x = (request ∷ [], origin_at size x)
+txn_at size x = record { client = Bytes request ∷ []; origin = origin_at size x; leave = None }
 
 -- the state in which the next one begins
 abbrev pub txn_after : ℕ → ℕ → ℕ

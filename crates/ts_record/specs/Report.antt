@@ -7,11 +7,13 @@ use Rattle.ts_hooks.specs.declared.txn_end.TxnEnd.TheVariants as e
 use Rattle.ts_link.specs.Texts.{line_feed}
 use Rattle.ts_record.specs.declared.report.ReportBlock.{ReportBlock}
 
--- the word of an end in a report; the other ends have none, since the links of a recording do not fail
+-- the word of an end in a report: that of a client's fault says that the recording has its client leave; the
+-- other ends have none, since a recorded origin does not fail
 abbrev pub end_word : TxnEnd → List ℕ
 end_word e.Whole = codes "whole"
 end_word e.OriginCut = codes "cut"
 end_word e.OriginBad = codes "bad"
+end_word e.ClientFault = codes "left"
 end_word other = []
 
 -- an end that a report names
@@ -19,6 +21,7 @@ abbrev pub IsReported : TxnEnd → Type 0
 IsReported e.Whole = ⊤
 IsReported e.OriginCut = ⊤
 IsReported e.OriginBad = ⊤
+IsReported e.ClientFault = ⊤
 IsReported other = ⊥
 
 -- the ends of all these blocks are
@@ -52,10 +55,11 @@ block_text number block =
     ++ sized_text (codes "head ") block.head
     ++ body_text block.end block.content
 
--- the first line of a report, with its version, and the last one
-abbrev pub report_begin : List ℕ
-report_begin = codes "tsx-report 1\n"
+-- the first line of a report, with the version of its recording
+abbrev pub report_begin : ℕ → List ℕ
+report_begin version = codes "tsx-report " ++ decimal version ++ line_feed ∷ []
 
+-- the last line
 abbrev pub report_end : List ℕ
 report_end = codes "done\n"
 
@@ -64,6 +68,6 @@ abbrev pub blocks_text : ℕ → List ReportBlock → List ℕ
 blocks_text number [] = []
 blocks_text number (b ∷ bs) = block_text number b ++ blocks_text (number + 1) bs
 
--- the report on transactions that came to these blocks, in their order
-abbrev pub report_text : List ReportBlock → List ℕ
-report_text blocks = report_begin ++ blocks_text 1 blocks ++ report_end
+-- the report on the transactions of a recording of this version that came to these blocks, in their order
+abbrev pub report_text : ℕ → List ReportBlock → List ℕ
+report_text version blocks = report_begin version ++ blocks_text 1 blocks ++ report_end

@@ -1,16 +1,18 @@
 //! A recording that is made from a seed: requests for one page, and responses of letters in every framing.
 ghost use Rattle.std.specs.Prelude.{◌≡◌, ◌≤◌, ◌++◌, ◌∷◌, [], length, take, drop, IfOk, OnOk};
-ghost use Rattle.ts_record.specs.Generator.{after, chunks_by, framed, framing_by, generated, length_at, letters};
+ghost use Rattle.ts_record.specs.Generator.{after, chunks_by, framed, framing_by, generated, length_at};
+ghost use Rattle.ts_record.specs.Generator.{letters};
 ghost use Rattle.ts_record.specs.Generator.{next, origin_at, pieces, request, response, txn_after, txn_at};
-ghost use Rattle.ts_record.specs.Grammar.{KeepsLimits};
+ghost use Rattle.ts_link.specs.declared.piece.Piece.TheVariants.{Bytes};
+ghost use Rattle.ts_record.specs.Grammar.{KeepsLimits, contents};
 ghost use Rattle.ts_wire.specs.Frames.{IsPiece, chunk_text, last_chunk};
 
 use crate::draws::Draws;
-use crate::recording::{MOST_TXNS, RecordedTxn, Recording};
+use crate::recording::{FIRST_VERSION, MOST_TXNS, RecordedTxn, Recording};
 use itoa::Buffer;
 use std::alloc::Global;
 use ts_iobuf::Waiting;
-use ts_link::{NoMemory, Octets};
+use ts_link::{NoMemory, Octets, Piece};
 use ts_wire::{Mode, frame_end, frame_piece};
 
 // How many letters there are.
@@ -145,7 +147,7 @@ fn take_piece(alloc: Global, bytes: &mut Waiting, most: usize) -> Result<Octets,
 }
 
 // Bytes in pieces.
-fn cut(alloc: Global, draws: &mut Draws, mut bytes: Waiting) -> Result<Vec<Octets>, NoMemory>
+fn cut(alloc: Global, draws: &mut Draws, mut bytes: Waiting) -> Result<Vec<Piece>, NoMemory>
     ensures pieces { IfOk result (λ ps. ps.items ≡ pieces draws.old.state bytes) }
     ensures state { OnOk result
         (draws.new.state ≡ after (length (pieces draws.old.state bytes)) draws.old.state) }
@@ -153,13 +155,14 @@ fn cut(alloc: Global, draws: &mut Draws, mut bytes: Waiting) -> Result<Vec<Octet
     let mut pieces = Vec::new(alloc);
     'pieces: while !bytes.is_empty() {
         let most = 1 + draws.below(MOST_SENT) as usize;
-        pieces.push(take_piece(alloc, &mut bytes, most)?)?;
+        let piece = take_piece(alloc, &mut bytes, most)?;
+        pieces.push(Piece::Bytes(piece))?;
     }
     Ok(pieces)
 }
 
 // The pieces of the response of one transaction.
-fn draw_origin(alloc: Global, draws: &mut Draws, size: u32) -> Result<Vec<Octets>, NoMemory>
+fn draw_origin(alloc: Global, draws: &mut Draws, size: u32) -> Result<Vec<Piece>, NoMemory>
     ensures pieces { IfOk result (λ ps. ps.items ≡ origin_at size draws.old.state) }
     ensures state { OnOk result (draws.new.state ≡ txn_after size draws.old.state) }
 {
@@ -171,11 +174,12 @@ fn draw_origin(alloc: Global, draws: &mut Draws, size: u32) -> Result<Vec<Octets
 }
 
 // The pieces of a request.
-fn request(alloc: Global) -> Result<Vec<Octets>, NoMemory>
-    ensures { IfOk result (λ ps. ps.items ≡ request ∷ []) }
+fn request(alloc: Global) -> Result<Vec<Piece>, NoMemory>
+    ensures { IfOk result (λ ps. ps.items ≡ Bytes request ∷ []) }
 {
     let mut client = Vec::with_capacity(alloc, 1)?;
-    client.push(Octets::copy_of(alloc, b"GET / HTTP/1.1\r\nHost: a\r\n\r\n")?)?;
+    let bytes = Octets::copy_of(alloc, b"GET / HTTP/1.1\r\nHost: a\r\n\r\n")?;
+    client.push(Piece::Bytes(bytes))?;
     Ok(client)
 }
 
@@ -186,15 +190,19 @@ fn draw_txn(alloc: Global, draws: &mut Draws, size: u32) -> Result<RecordedTxn, 
 {
     let client = request(alloc)?;
     let origin = draw_origin(alloc, draws, size)?;
-    Ok(RecordedTxn { client, origin })
+    Ok(RecordedTxn {
+        client,
+        origin,
+        leave: None,
+    })
 }
 
-/// So many transactions, whose bodies have at most `size` bytes; they depend on the three numbers alone. A
-/// body is made before its response, and a response before its pieces, so that the recording and two copies
-/// of one body are held at most.
+/// So many transactions, whose bodies have at most `size` bytes, in version 1; they depend on the three
+/// numbers alone. A body is made before its response, and a response before its pieces, so that the recording
+/// and two copies of one body are held at most.
 pub fn generate(alloc: Global, seed: u64, count: u32, size: u32) -> Result<Recording, NoMemory>
     requires count { count ≤ MOST_TXNS }
-    ensures generated { IfOk result (λ r. r ≡ generated count size seed) }
+    ensures generated { IfOk result (λ r. r ≡ contents FIRST_VERSION (generated count size seed)) }
     // It is a recording: it keeps the limits of the grammar.
     ensures limits { IfOk result KeepsLimits }
 {
@@ -203,5 +211,8 @@ pub fn generate(alloc: Global, seed: u64, count: u32, size: u32) -> Result<Recor
     'txns: for _ in 0..count {
         txns.push(draw_txn(alloc, &mut draws, size)?)?;
     }
-    Ok(Recording { txns })
+    Ok(Recording {
+        version: FIRST_VERSION,
+        txns,
+    })
 }

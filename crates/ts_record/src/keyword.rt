@@ -1,20 +1,29 @@
 //! The words that the lines of a recording begin with: which stands at the front of bytes, and how much of
 //! one.
 ghost use Rattle.std.specs.Prelude.{◌≡◌, ℕ, ◌<◌, ◌≤◌, ◌++◌, length, IfSome, IfNone};
-ghost use Rattle.ts_record.specs.Keywords.{keyword_text, common, most_common, LacksKeyword, LacksAll};
+ghost use Rattle.ts_record.specs.Keywords.{keyword_text, piece_keyword, stall_keyword, common, most_common};
+ghost use Rattle.ts_record.specs.Keywords.{LacksKeyword, LacksAll};
 ghost use Rattle.ts_record.specs.Refusing.{BreaksOff, OneOf};
 
 /// A word that a line begins with, together with the space or the line feed behind it.
 #[derive(Clone, Copy)]
 pub enum Keyword {
-    /// The first line of a recording, with its version.
-    Header,
+    /// The first line of a recording of version 1.
+    HeaderOne,
+    /// That of a recording of version 2.
+    HeaderTwo,
     /// A transaction begins.
     Txn,
     /// A piece that the client sends.
     Client,
+    /// The client stalls.
+    ClientStall,
     /// A piece that the origin sends.
     Origin,
+    /// The origin stalls.
+    OriginStall,
+    /// The client leaves.
+    Leave,
     /// A transaction is over.
     Close,
     /// The recording is over.
@@ -27,12 +36,45 @@ impl Keyword {
         ensures { result.now ≡ keyword_text self }
     {
         match self {
-            Keyword::Header => b"tsx-recording 1\n",
+            Keyword::HeaderOne => b"tsx-recording 1\n",
+            Keyword::HeaderTwo => b"tsx-recording 2\n",
             Keyword::Txn => b"txn\n",
             Keyword::Client => b"client ",
+            Keyword::ClientStall => b"client-stall ",
             Keyword::Origin => b"origin ",
+            Keyword::OriginStall => b"origin-stall ",
+            Keyword::Leave => b"leave ",
             Keyword::Close => b"close\n",
             Keyword::End => b"end\n",
+        }
+    }
+}
+
+/// One of the two sides of a transaction.
+#[derive(Clone, Copy)]
+pub enum Side {
+    Client,
+    Origin,
+}
+
+impl Side {
+    /// The keyword of a piece that it sends.
+    pub fn piece_keyword(self) -> Keyword
+        ensures { result ≡ piece_keyword self }
+    {
+        match self {
+            Side::Client => Keyword::Client,
+            Side::Origin => Keyword::Origin,
+        }
+    }
+
+    /// That of a stall.
+    pub fn stall_keyword(self) -> Keyword
+        ensures { result ≡ stall_keyword self }
+    {
+        match self {
+            Side::Client => Keyword::ClientStall,
+            Side::Origin => Keyword::OriginStall,
         }
     }
 }

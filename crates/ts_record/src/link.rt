@@ -1,22 +1,25 @@
 //! The two sides of a recorded transaction as links.
-ghost use Rattle.std.specs.Prelude.{◌≡◌, Some, true, false, ⊤, IfOk};
+ghost use Rattle.std.specs.Prelude.{◌≡◌, Some, true, false, ⊤};
 ghost use Rattle.std.proofs.Common.{arith};
-ghost use Rattle.std.specs.List.{concat};
+ghost use Rattle.std.specs.Option.{is_some};
+ghost use Rattle.ts_link.specs.Inputs.{bytes_of};
 ghost use Rattle.ts_link.specs.Link.{all_of};
 ghost use Rattle.ts_link.specs.MemLink.{look_of};
-ghost use Rattle.ts_record.specs.Links.{IsNewSide, NeverFails, recorded_side, side_pieces};
+ghost use Rattle.ts_record.specs.Links.{GoesAsRecorded, IsNewSide, recorded_side};
 
 use std::alloc::Global;
-use std::collections::VecDeque;
 use std::marker::Model;
-use ts_link::{Got, Link, MemLink, NoMemory, Octets, Piece, Put};
+use ts_link::{Got, Link, MemLink, Piece, Put};
 use ts_upstream::{Uploaded, Upstream};
 
-/// One side of a recorded transaction: it gives the pieces of its side and then its end, and takes all that
-/// is written to it. No call of it fails or waits.
+/// One side of a recorded transaction: it gives the pieces of its side, waits at the stalls between them, and
+/// then gives its end. It takes all that is written to it, or so many bytes, where it leaves. No call of it
+/// fails or waits but a read at a stall and a write once it has left.
 #[derive(Drop)]
 pub struct RecordedLink {
     link: MemLink,
+    // Whether it leaves once it took as many bytes as it was made with.
+    leaves: bool,
 }
 
 impl Model for RecordedLink {
@@ -24,35 +27,33 @@ impl Model for RecordedLink {
 
     ghost Value = { LinkState };
 
-    ghost use Rattle.ts_record.specs.Links.{NeverFails};
+    ghost use Rattle.std.specs.Option.{is_some};
+    ghost use Rattle.std.specs.Prelude.{◌≡◌};
+    ghost use Rattle.ts_record.specs.Links.{GoesAsRecorded};
 
     ghost view = { λ l. l.link };
 
-    ghost invariant = { λ l. NeverFails l.link };
-}
-
-// The pieces as a link in memory takes them.
-fn given_pieces(alloc: Global, pieces: Vec<Octets>) -> Result<Vec<Piece>, NoMemory>
-    ensures { IfOk result (λ given. given.items ≡ side_pieces pieces.items) }
-{
-    let mut given = Vec::with_capacity(alloc, pieces.len())?;
-    let mut rest = VecDeque::from_vec(pieces);
-    while let Some(piece) = rest.pop_front() {
-        given.push(Piece::Bytes(piece))?;
-    }
-    Ok(given)
+    ghost invariant = { λ l. GoesAsRecorded l.link × (l.leaves ≡ is_some l.link.may_take) };
 }
 
 impl RecordedLink {
-    /// The side that gives these pieces. It was not used.
-    pub fn make(alloc: Global, pieces: Vec<Octets>) -> Result<RecordedLink, NoMemory>
-        ensures made { IfOk result (λ l. l ≡ recorded_side pieces.items) }
-        ensures new { IfOk result (IsNewSide (concat pieces.items)) }
+    /// The side that gives these pieces, with the stalls between them, and leaves once it took so many bytes,
+    /// if it leaves. It was not used.
+    pub fn make(alloc: Global, pieces: Vec<Piece>, leave: Option<u64>) -> RecordedLink
+        ensures made { result ≡ recorded_side pieces.items leave }
+        ensures new { IsNewSide (bytes_of pieces.items) result }
     {
-        let given = given_pieces(alloc, pieces)?;
-        Ok(RecordedLink {
-            link: MemLink::of_pieces(alloc, given, None),
-        })
+        RecordedLink {
+            link: MemLink::of_pieces(alloc, pieces, leave),
+            leaves: leave.is_some(),
+        }
+    }
+
+    /// Whether it leaves, once it took as many bytes as it was made with.
+    pub fn leaves(&self) -> bool
+        ensures { result ≡ is_some self.now.may_take }
+    {
+        self.leaves
     }
 
     /// What it took, in order.
@@ -62,10 +63,10 @@ impl RecordedLink {
         self.link.written()
     }
 
-    /// What holds of every one: no call failed or waited, and what it gave and may still give are the bytes
-    /// of its side.
+    /// What holds of every one: what went wrong is what the recording says, and what it gave and may still
+    /// give are the bytes of its side.
     pub fn known(&self)
-        ensures fails { NeverFails self.now }
+        ensures goes { GoesAsRecorded self.now }
         ensures whole { all_of (look_of self.now) ≡ (look_of self.now).source }
     {
         self.link.known();

@@ -1,15 +1,17 @@
-//! A piece behind its keyword: its length in decimal, its bytes, and a line feed behind each.
+//! What stands behind a keyword: a number in decimal with a line feed behind it, and behind the length of a
+//! piece its bytes and one more line feed.
 ghost use Rattle.std.specs.Prelude.{◌≡◌, ℕ, ◌≤◌, ◌∷◌, length, drop, IfSome, IfNone, IfOk, IfErr};
 ghost use Rattle.ts_link.specs.Texts.{line_feed};
-ghost use Rattle.ts_record.specs.Grammar.{IsRecordedPiece, piece_before};
-ghost use Rattle.ts_record.specs.Refusing.{BreaksOff, IsPieceText, LacksFeed, DigitsEnd};
+ghost use Rattle.ts_record.specs.Grammar.{IsRecordedPiece, number_before, piece_before};
+ghost use Rattle.ts_record.specs.Refusing.{BreaksOff, IsPieceText, IsNumberText, LacksFeed, DigitsEnd};
 
-use crate::recording::{BASE, MOST_PIECE};
+use crate::recording::{BASE, MOST_PIECE, MOST_TAKEN};
 
-// How many digits at the front the length of a piece can begin with, and the number that they stand for.
-fn count_digits(bytes: &[u8]) -> (usize, usize)
+// How many digits at the front a number up to this limit can begin with, and the number that they stand for.
+fn count_digits(bytes: &[u8], limit: usize) -> (usize, usize)
+    requires limit { limit ≤ MOST_TAKEN }
     ensures within { result.0 ≤ length bytes.now }
-    ensures digits { DigitsEnd bytes.now result.1 (drop result.0 bytes.now) }
+    ensures digits { DigitsEnd limit bytes.now result.1 (drop result.0 bytes.now) }
 {
     let mut value = 0;
     for (count, byte) in bytes.iter().enumerate() {
@@ -17,7 +19,7 @@ fn count_digits(bytes: &[u8]) -> (usize, usize)
             return (count, value);
         }
         let longer = BASE * value + usize::from(*byte - b'0');
-        if longer == 0 || longer > MOST_PIECE {
+        if longer == 0 || longer > limit {
             return (count, value);
         }
         value = longer;
@@ -26,10 +28,11 @@ fn count_digits(bytes: &[u8]) -> (usize, usize)
 }
 
 // The number that those digits stand for, 0 where there are none, and the bytes behind them.
-fn read_length(bytes: &[u8]) -> (usize, &[u8])
-    ensures { DigitsEnd bytes.now result.0 result.1.now }
+fn read_digits(bytes: &[u8], limit: usize) -> (usize, &[u8])
+    requires limit { limit ≤ MOST_TAKEN }
+    ensures { DigitsEnd limit bytes.now result.0 result.1.now }
 {
-    let (count, value) = count_digits(bytes);
+    let (count, value) = count_digits(bytes, limit);
     (value, &bytes[count..])
 }
 
@@ -44,6 +47,25 @@ fn after_feed(bytes: &[u8]) -> Option<&[u8]>
     }
 }
 
+/// The number from 1 to this limit that stands behind its keyword, and the bytes behind its line feed; or how
+/// many bytes are left behind the longest front that such a text begins with.
+pub fn read_number(bytes: &[u8], limit: usize) -> Result<(usize, &[u8]), usize>
+    requires some { 1 ≤ limit }
+    requires limit { limit ≤ MOST_TAKEN }
+    ensures number { IfOk result (λ cut. (1 ≤ cut.0) × (cut.0 ≤ limit)) }
+    ensures text { IfOk result (λ cut. bytes.now ≡ number_before cut.1.now cut.0) }
+    ensures refused { IfErr result (BreaksOff (IsNumberText limit) bytes.now) }
+{
+    let (number, behind) = read_digits(bytes, limit);
+    if number == 0 {
+        return Err(behind.len());
+    }
+    match after_feed(behind) {
+        Some(rest) => Ok((number, rest)),
+        None => Err(behind.len()),
+    }
+}
+
 /// The piece that stands behind its keyword, and the bytes behind it; or how many bytes are left behind the
 /// longest front that such a text begins with.
 pub fn read_piece(bytes: &[u8]) -> Result<(&[u8], &[u8]), usize>
@@ -51,7 +73,7 @@ pub fn read_piece(bytes: &[u8]) -> Result<(&[u8], &[u8]), usize>
     ensures text { IfOk result (λ cut. bytes.now ≡ piece_before cut.1.now cut.0.now) }
     ensures refused { IfErr result (BreaksOff IsPieceText bytes.now) }
 {
-    let (length, behind) = read_length(bytes);
+    let (length, behind) = read_digits(bytes, MOST_PIECE);
     if length == 0 {
         return Err(behind.len());
     }

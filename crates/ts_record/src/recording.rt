@@ -1,7 +1,13 @@
-//! A recording as a value, its limits, and why a text is not read as one.
+//! A recording as a value, its versions, its limits, and why a text is not read as one.
 use std::marker::Model;
 use thiserror::Error;
-use ts_link::Octets;
+use ts_link::{Octets, Piece};
+
+/// The version of a recording whose sides send pieces, and do nothing else.
+pub const FIRST_VERSION: u8 = 1;
+
+/// The version of a recording whose sides may also stall, and whose clients may leave.
+pub const SECOND_VERSION: u8 = 2;
 
 /// The base of the numbers of a recording.
 pub const BASE: usize = 10;
@@ -9,14 +15,25 @@ pub const BASE: usize = 10;
 /// The most bytes of a piece.
 pub const MOST_PIECE: usize = 32_768;
 
+/// The most reads that wait at one stall.
+pub const MOST_STALL: u32 = 1_000;
+
+/// The most reads that wait at all stalls of a recording together.
+pub const MOST_STALLED: u32 = 100_000;
+
+/// The most bytes that a client takes which leaves.
+pub const MOST_TAKEN: u64 = 67_108_864;
+
 /// The most transactions of a recording.
 pub const MOST_TXNS: usize = 4_000;
 
-/// What the two sides of a transaction send before their ends, piece by piece; a piece has at least one byte.
+/// What the two sides of a transaction do before their ends, piece by piece and stall by stall, and how many
+/// bytes the client takes, if it leaves; a piece has at least one byte.
 #[derive(Drop)]
 pub struct RecordedTxn {
-    pub client: Vec<Octets>,
-    pub origin: Vec<Octets>,
+    pub client: Vec<Piece>,
+    pub origin: Vec<Piece>,
+    pub leave: Option<u64>,
 }
 
 impl Model for RecordedTxn {
@@ -24,22 +41,23 @@ impl Model for RecordedTxn {
 
     ghost Value = { TxnPieces };
 
-    ghost view = { λ t. (t.client.items, t.origin.items) };
+    ghost view = { λ t. record { client = t.client.items; origin = t.origin.items; leave = t.leave } };
 }
 
-/// Transactions in order.
+/// Transactions in order, and the version of the text that they stand in.
 #[derive(Drop)]
 pub struct Recording {
+    /// `FIRST_VERSION` or `SECOND_VERSION`.
+    pub version: u8,
     pub txns: Vec<RecordedTxn>,
 }
 
 impl Model for Recording {
-    ghost use Rattle.std.specs.Prelude.{List};
-    ghost use Rattle.ts_record.specs.Grammar.{TxnPieces};
+    ghost use Rattle.ts_record.specs.Grammar.{Contents};
 
-    ghost Value = { List TxnPieces };
+    ghost Value = { Contents };
 
-    ghost view = { λ r. r.txns.items };
+    ghost view = { λ r. record { version = r.version; txns = r.txns.items } };
 }
 
 /// Why bytes were not read as a recording.

@@ -1,17 +1,13 @@
 //! The report on a recording: the text of what one transaction came to.
 ghost use Rattle.std.specs.Prelude.{◌≡◌, ◌++◌, IfOk, OnOk};
 ghost use Rattle.ts_record.specs.Printing.{KeepsFront};
-ghost use Rattle.ts_record.specs.Report.{AreReported, IsReported, end_word, sized_text, request_lines, head_lines};
-ghost use Rattle.ts_record.specs.Report.{block_text, report_text};
+ghost use Rattle.ts_record.specs.Report.{IsReported, end_word, sized_text, request_lines, head_lines};
+ghost use Rattle.ts_record.specs.Report.{block_text, report_begin};
 
 use itoa::Buffer;
 use std::alloc::Global;
-use std::collections::VecDeque;
 use ts_hooks::TxnEnd;
 use ts_link::{NoMemory, Octets};
-
-/// The first line of a report, with its version.
-pub const REPORT_BEGIN: &[u8] = b"tsx-report 1\n";
 
 /// The last line of a report.
 pub const REPORT_END: &[u8] = b"done\n";
@@ -21,7 +17,7 @@ pub const REPORT_END: &[u8] = b"done\n";
 pub struct ReportBlock {
     /// The head that was sent to the origin, empty where none was.
     pub request: Octets,
-    /// How it ended.
+    /// How it ended: with a client's fault, where the recording has its client leave.
     pub end: TxnEnd,
     /// The head that was sent to the client, empty where nothing was.
     pub head: Octets,
@@ -37,6 +33,7 @@ fn end_word(end: TxnEnd) -> &'static [u8]
         TxnEnd::Whole => b"whole",
         TxnEnd::OriginCut => b"cut",
         TxnEnd::OriginBad => b"bad",
+        TxnEnd::ClientFault => b"left",
         _ => unreachable!(),
     }
 }
@@ -53,6 +50,17 @@ fn print_sized(out: &mut Vec<u8>, name: &[u8], bytes: &[u8]) -> Result<(), NoMem
     out.extend_from_slice(bytes)?;
     out.push(b'\n')?;
     Ok(())
+}
+
+/// The first line of a report on a recording of this version.
+pub fn begin_report(alloc: Global, version: u8) -> Result<Vec<u8>, NoMemory>
+    ensures { IfOk result (λ begun. begun.items ≡ report_begin version) }
+{
+    let mut digits = Buffer::new();
+    let mut begun = Vec::from_slice(alloc, b"tsx-report ")?;
+    begun.extend_from_slice(digits.format(version).as_bytes())?;
+    begun.push(b'\n')?;
+    Ok(begun)
 }
 
 // Prints the lines on a transaction's number, and on the head that the origin got.
@@ -104,21 +112,4 @@ pub fn report_block(alloc: Global, number: u64, block: &ReportBlock) -> Result<O
     let mut out = Vec::new(alloc);
     add_block(&mut out, number, block)?;
     Ok(Octets::of_vec(out))
-}
-
-/// The report on transactions that came to these blocks, in their order. A block is let go once its lines
-/// are printed.
-pub fn print_report(alloc: Global, blocks: Vec<ReportBlock>) -> Result<Vec<u8>, NoMemory>
-    requires { AreReported blocks.items }
-    ensures { IfOk result (λ report. report.items ≡ report_text blocks.items) }
-{
-    let mut report = Vec::from_slice(alloc, REPORT_BEGIN)?;
-    let mut rest = VecDeque::from_vec(blocks);
-    let mut number = 0;
-    'lines: while let Some(block) = rest.pop_front() {
-        number += 1;
-        add_block(&mut report, number, &block)?;
-    }
-    report.extend_from_slice(REPORT_END)?;
-    Ok(report)
 }

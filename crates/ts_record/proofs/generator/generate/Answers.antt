@@ -1,6 +1,7 @@
-use Rattle.std.proofs.Common.{rules, sym, subst, ◌≤◌}
+use Rattle.std.proofs.Common.{rules, ap, sym, subst, ◌≤◌}
 use Rattle.ts_record.specs.Generator.{generated}
-use Rattle.ts_record.specs.Grammar.{KeepsLimits}
+use Rattle.ts_record.specs.Grammar.{KeepsLimits, contents}
+use Rattle.ts_record.specs.declared.recording.TheConstants.{FIRST_VERSION}
 use Rattle.ts_record.proofs.Generating.{keeps_limits, txns_all, txn_more}
 use Rattle.ts_record.proofs.generator.generate.Goals as goal
 
@@ -14,6 +15,6 @@ pub returns-clause-limits : goal.returns-clause-limits
 returns-clause-limits c =
     let past : c.args.count ≤ c.txns.counter = search rules in
     subst KeepsLimits
-    (sym (txns_all c.args.size c.args.count c.txns.counter c.txns.draws.state c.txns.txns.items
-    (generated c.args.count c.args.size c.args.seed) past c.txns.invariant))
+    (ap (contents FIRST_VERSION) (sym (txns_all c.args.size c.args.count c.txns.counter c.txns.draws.state
+    c.txns.txns.items (generated c.args.count c.args.size c.args.seed) past c.txns.invariant)))
     (keeps_limits c.args.count c.args.size c.args.seed c.requires.count)
