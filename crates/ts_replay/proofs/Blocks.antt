@@ -10,7 +10,7 @@ use Rattle.ts_block.specs.declared.block.Block.{Block}
 use Rattle.ts_wire.specs.Check.{check}
 use Rattle.ts_wire.specs.OneHead.{IsReadRequest}
 use Rattle.ts_wire.specs.declared.heads.RequestHead.{RequestHead}
-use Rattle.ts_block.proofs.SentOnce.{asks_once, was_read}
+use Rattle.ts_block.proofs.SentOnce.{request_stays_one, was_read}
 use Rattle.ts_replay.specs.Exchanged.{EndsBlank}
 use Rattle.ts_replay.proofs.Blank.{sent_ends}
 
@@ -34,11 +34,11 @@ short_shaped b made is ends none = subst IsShaped (sym is) (record { request = e
 
 module _ (setup : Setup) (plain : HasPlainRules setup) where
   -- the request that an origin is sent ends with its only empty line
-  request_ends : (q : RequestHead) (target host : List ℕ) → IsReadRequest q → check q ≡ Ok (target, host)
+  pub request_ends : (q : RequestHead) (target host : List ℕ) → IsReadRequest q → check q ≡ Ok (target, host)
       → EndsBlank (request_text setup q target host)
   request_ends q target host read passes =
       sent_ends q.method target host (request_text setup q target host)
-      (asks_once setup plain q target host read passes)
+      (request_stays_one setup plain q target host read passes)
 
   -- ---- case by case
 

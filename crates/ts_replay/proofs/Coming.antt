@@ -1,29 +1,31 @@
 -- What a row came to grows by the block and the journal of one more member.
 use Rattle.std.proofs.Common.{◌≡◌, ℕ, ◌+◌, List, [], ◌∷◌, ◌++◌, length, append_assoc, map, All, refl, sym, ap}
-use Rattle.std.proofs.Common.{subst, ◌∙◌, arith, false}
-use Rattle.std.specs.Prelude.{IsSomeAnd}
-use Rattle.std.specs.List.{AllZip, concat}
+use Rattle.std.proofs.Common.{subst, ◌∙◌}
+use Rattle.std.specs.Prelude.{IsSomeAnd, None, Option, Some}
+use Rattle.std.specs.List.{AllZip}
 use Rattle.std.proofs.lemmas.List.{append-nil, map-append}
 use Rattle.std.proofs.lemmas.List.Elements.{All-nil, All-push}
 use Rattle.std.proofs.lemmas.Slice.Zip.{all_zipped_more}
 use Rattle.ts_config.specs.declared.fields.PluginLine.{PluginLine}
 use Rattle.ts_config.specs.declared.setup.Setup.{Setup}
 use Rattle.ts_group.specs.declared.either.Either.TheVariants.{One}
-use Rattle.ts_journal.specs.declared.entry.Entry.{Entry}
+use Rattle.ts_hooks.specs.declared.txn_end.TxnEnd.{TxnEnd}
+use Rattle.ts_journal.specs.Final.{IsFinal}
 use Rattle.ts_journal.specs.Log.{Log}
-use Rattle.ts_journal.specs.Machine.{Balances, HasLived, IsLawful, replay}
+use Rattle.ts_journal.proofs.Final.{IsKept, is_final}
 use Rattle.ts_lists.proofs.Elements.{each_push}
 use Rattle.ts_record.specs.Grammar.{TxnPieces}
 use Rattle.ts_record.specs.Report.{AreReported, IsReported}
 use Rattle.ts_record.specs.declared.report.ReportBlock.{ReportBlock}
-use Rattle.ts_replay.specs.Exchanged.{AddsBlock, HasRun}
+use Rattle.ts_replay.specs.Exchanged.{AddsBlock, HasRun, MayEnd, ShowsEnd}
 use Rattle.ts_replay.specs.Members.{HookPlugin, Member, Transaction, members, numbered}
 use Rattle.ts_replay.specs.Recorded.{RowGroup}
-use Rattle.ts_replay.specs.Replayed.{ComesTo, HasRestedAs, HasRunAs, IsDoneAs, IsFinal, IsReplayOf}
+use Rattle.ts_replay.specs.Replayed.{ComesTo, HasRestedAs, HasRunAs, IsDoneAs, IsReplayOf}
 use Rattle.ts_replay.specs.Replayed.{journal_of}
-use Rattle.ts_replay.specs.Reports.{AreShown, IsTxnShown}
+use Rattle.ts_replay.specs.Reports.{AreShown, IsTxnShown, sides_of}
 use Rattle.ts_replay.specs.declared.outcomes.Replayed.{Replayed}
 use Rattle.ts_replay.proofs.Ended.{run_between}
+use Rattle.ts_txn.specs.Making.{end_of_course}
 
 -- ---- the transactions among the members
 
@@ -53,38 +55,6 @@ among_all : (number : ℕ) (txns : List TxnPieces) (lines : List PluginLine)
     → txns_among (numbered number txns ++ map HookPlugin lines) ≡ txns
 among_all number [] lines = among_plugins lines
 among_all number (txn ∷ txns) lines = ap (λ ts. txn ∷ ts) (among_all (number + 1) txns lines)
-
--- ---- a journal
-
--- the state of a journal is what its entries come to, which are lawful, and its counts add up
-pub record IsKept (log : Log) : Type 0 where
-  pub lawful : IsLawful log.base.state log.entries
-  pub state : log.state ≡ replay log.base.state log.entries
-  pub lived : HasLived log.base.made log.state
-  pub counts : Balances log.state
-
--- what is read of a journal is known of its group
-pub is_kept : (log read : Log) (es : List Entry) → read ≡ log → es ≡ read.entries
-    → IsLawful read.base.state es → read.state ≡ replay read.base.state es
-    → HasLived read.base.made read.state → Balances read.state → IsKept log
-is_kept log read es same are lawful state lived counts = subst IsKept same
-    (record {
-      lawful = subst (IsLawful read.base.state) are lawful;
-      state = state ∙ ap (replay read.base.state) are;
-      lived = lived;
-      counts = counts;
-    })
-
--- one that is kept, not held and with nothing pending is final
-is_final : (log : Log) → IsKept log → log.state.held ≡ false → log.state.pending ≡ [] → IsFinal log
-is_final log kept given idle = record {
-  lawful = kept.lawful;
-  state = kept.state;
-  lived = kept.lived;
-  given = given;
-  none = idle;
-  closed = let all = kept.counts in let none = ap length idle in omega (arith, all, none);
-}
 
 -- ---- the members of a row
 
@@ -139,7 +109,7 @@ next_among setup at (m ∷ ms) g rest each =
 -- the world of a group whose member is done has run
 pub has_run : (setup : Setup) (at : ℕ) (m : Member) (g : RowGroup) → IsDoneAs setup at m g → HasRun g.world
 has_run setup at (Transaction number txn) g ran = subst HasRun (sym ran.is_txn)
-    (setup, concat txn.0, concat txn.1, run_between setup at number txn g ran)
+    (setup, sides_of txn, run_between setup at number txn g ran)
 has_run setup at (HookPlugin line) g rested = subst HasRun (sym rested.is_plugin) tt
 
 -- ---- one member more
@@ -152,18 +122,25 @@ record ComesOn (setup : Setup) (at : ℕ) (done : List Member) (m : Member) (g :
   reported : AreReported blocks
   final : IsFinal g.cx.log
 
+-- whatever a block shows of an end, the transaction may end so
+ended_as : (leave : Option ℕ) (end : Option TxnEnd) (shown : TxnEnd) → ShowsEnd leave end shown
+    → IsSomeAnd end (MayEnd leave)
+ended_as None end shown is = subst (λ e. IsSomeAnd e (MayEnd None)) (sym is.0) is.1
+ended_as (Some most) end shown is = is.0
+
 -- a transaction comes to its block
 txn_comes : (setup : Setup) (at number : ℕ) (txn : TxnPieces) (g : RowGroup) (done : List Member)
     (old new : List ReportBlock) → (ran : HasRunAs setup at number txn g) → AddsBlock (One ran.txn) old new
     → IsKept g.cx.log → AreShown setup (txns_among done) old → AreReported old
     → ComesOn setup at done (Transaction number txn) g new
 txn_comes setup at number txn g done old new ran (b, longer, tells) kept shown reported =
-    let here : IsTxnShown setup txn b = tells.shown setup (concat txn.0) (concat txn.1)
-    (run_between setup at number txn g ran) in
+    let between = run_between setup at number txn g ran in
+    let here : IsTxnShown setup txn b = tells.shown setup (sides_of txn) between in
     record {
       replay = record {
         ran = ran;
-        ended = subst (λ e. IsSomeAnd e IsReported) (sym tells.ended) tells.reported;
+        ended = ended_as txn.leave (end_of_course ran.txn.course) b.end
+            (tells.ended setup (sides_of txn) between);
       };
       shown = subst (λ ts. AreShown setup ts new) (sym (among_more done number txn))
           (subst (AreShown setup (txns_among done ++ txn ∷ [])) (sym longer)

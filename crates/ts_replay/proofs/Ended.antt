@@ -4,7 +4,8 @@ use Rattle.std.proofs.Common.{Option, Some, None, All, refl, sym, ap, subst, ◌
 use mathlib.Core.Option.{some}
 use lib.ListN.{get_elem?}
 use Rattle.std.specs.Prelude.{max}
-use Rattle.std.specs.List.{AllZip, concat}
+use Rattle.std.specs.List.{AllZip}
+use Rattle.std.specs.Option.{option_map}
 use Rattle.std.proofs.lemmas.Bool.{OnTrue_at}
 use Rattle.std.proofs.lemmas.List.Elements.{All-head, All-tail}
 use Rattle.ts_config.specs.declared.fields.PluginLine.{PluginLine}
@@ -20,13 +21,13 @@ use Rattle.ts_lists.proofs.Pairs.{zip_at_place}
 use Rattle.ts_plugin.specs.declared.plugin.PluginTag.{PluginTag}
 use Rattle.ts_record.specs.Grammar.{TxnPieces}
 use Rattle.ts_record.specs.Links.{recorded_side}
-use Rattle.ts_record.proofs.Links.{side_bytes}
-use Rattle.ts_replay.specs.Exchanged.{IsRunBetween}
+use Rattle.ts_replay.specs.Exchanged.{IsRunBetween, leave_of, leave_told}
 use Rattle.ts_replay.specs.Members.{HookPlugin, Member, members, numbered}
 use Rattle.ts_replay.specs.Recorded.{FitInRow, FitsIn, HasPlainLines, HasRowBegun, IsNewTagOf, IsOfRowTag}
 use Rattle.ts_replay.specs.Recorded.{IsOfTag, IsSoundRow, IsSoundWith, IsTagOf, Recorded, RecordedTag}
 use Rattle.ts_replay.specs.Recorded.{RowGroup, RowTag, RowWorld, is_asked_only, is_first}
 use Rattle.ts_replay.specs.Replayed.{AreDone, HasRestedAs, HasRunAs, IsDoneAs}
+use Rattle.ts_replay.specs.Reports.{sides_of}
 use Rattle.ts_replay.specs.Rows.{AreGroupsOf}
 use Rattle.ts_thread.specs.declared.TheConstants.{MOST_ALONE}
 use Rattle.ts_thread.specs.Goings.{IsIdle}
@@ -109,8 +110,10 @@ rested line tag g is fits idle = of_world g.world refl
       is_plugin = same;
       line_is = subst (IsOfRowTag (kind.Other tag)) same fits.0 ∙ is;
       sound = subst (λ v. IsSoundRow v g.cx.log.state g.cx.roles) same fits.1;
+      began = fits.3;
       idle = idle;
       given = fits.2.0;
+      numbers = fits.2.1;
     }
 
 module _ (setup : Setup) (at most : ℕ) (lines : HasPlainLines setup)
@@ -132,6 +135,7 @@ module _ (setup : Setup) (at most : ℕ) (lines : HasPlainLines setup)
           plugins_at = is.plugins_at;
           client = is.client;
           origin = is.origin;
+          takes_some = is.takes_some;
           sure = is.sure;
           first = is.first;
           started_is = refl;
@@ -205,26 +209,40 @@ none_done setup at (m ∷ ms) (tag ∷ tags) groups row none =
 
 -- ---- what a transaction's block is made of
 
--- an origin's side is dialed, and its source is that of the link that it was made of
-made_source : (x : Option (Peer LinkState)) (made : LinkState) → IsSameLinkIf look_of (Some made) x
-    → (is_dialed x ≡ true) × ((side_if look_of x).look.source ≡ (look_of made).source)
-made_source None made same = absurd same
-made_source (Some p) made same = (refl, same.source)
+-- an origin's side is dialed, and gives what the link gives that it was made of, and leaves as that does
+record IsMadeSide (x : Option (Peer LinkState)) (made : LinkState) : Type 0 where
+  dialed : is_dialed x ≡ true
+  source : (side_if look_of x).look.source ≡ (look_of made).source
+  leaves : leave_of (side_if look_of x).look ≡ leave_of (look_of made)
 
--- a transaction that has run did so between the bytes of its two sides
+made_side : (x : Option (Peer LinkState)) (made : LinkState) → IsSameLinkIf look_of (Some made) x
+    → IsMadeSide x made
+made_side None made same = absurd same
+made_side (Some p) made same =
+    record { dialed = refl; source = same.source; leaves = ap leave_told same.plan }
+
+-- a recorded side that took nothing yet leaves after as many bytes as the recording says
+side_leaves : (leave : Option ℕ) → option_map (λ m. 0 + m) leave ≡ leave
+side_leaves None = refl
+side_leaves (Some most) = let all : 0 + most ≡ most = omega arith in ap Some all
+
+-- a transaction that has run did so between its two sides
 pub run_between : (setup : Setup) (at number : ℕ) (txn : TxnPieces) (g : RowGroup)
-    → (ran : HasRunAs setup at number txn g) → IsRunBetween setup (concat txn.0) (concat txn.1) ran.txn
+    → (ran : HasRunAs setup at number txn g) → IsRunBetween setup (sides_of txn) ran.txn
 run_between setup at number txn g ran =
     let t = ran.txn in
-    let of_origin = made_source t.core.origin (recorded_side txn.1)
+    let of_origin = made_side t.core.origin (recorded_side txn.origin None)
     (subst (λ o. IsSameLinkIf look_of o t.core.origin) ran.tag_is.origin ran.fits.origin) in
     record {
       setup_is = ran.fits.setup ∙ ran.tag_is.setup_is;
       plain = ran.lines.plain;
-      gives = ran.fits.client.source ∙ ap (λ (l : LinkState). (look_of l).source) ran.tag_is.client ∙
-          side_bytes txn.0;
-      dialed = of_origin.0;
-      answers = of_origin.1 ∙ side_bytes txn.1;
+      gives = ran.fits.client.source ∙ ap (λ (l : LinkState). (look_of l).source) ran.tag_is.client;
+      leaves = ap leave_told ran.fits.client.plan
+          ∙ ap (λ (l : LinkState). leave_of (look_of l)) ran.tag_is.client ∙ side_leaves txn.leave;
+      takes_some = ran.tag_is.takes_some;
+      dialed = of_origin.dialed;
+      answers = of_origin.source;
+      stays = of_origin.leaves;
       started = ran.fits.started ran.tag_is.started_is;
       next = g.cx.log.state.next;
       left = ran.numbers;

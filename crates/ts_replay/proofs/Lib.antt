@@ -3,10 +3,13 @@ pub mod Blank
 pub mod Blocks
 pub mod Coming
 pub mod Ended
+pub mod Heads
 pub mod HexLengths
+pub mod Leaving
 pub mod OneReport
 pub mod Plans
 pub mod Rows
 pub mod SameLines
+pub mod Standing
 pub mod Telling
 pub mod Unframing

@@ -1,26 +1,39 @@
 -- Transactions under lines have at most one list of blocks, and so a recording has at most one report.
-use Rattle.std.proofs.Common.{◌≡◌, List, [], ◌∷◌, true, false, sym, ap, subst, refl, ◌∙◌}
-use Rattle.std.specs.List.{concat}
+use Rattle.std.proofs.Common.{◌≡◌, ℕ, List, [], ◌∷◌, Option, None, Some, true, false, sym, ap, subst, refl}
+use Rattle.std.proofs.Common.{◌∙◌}
 use Rattle.ts_config.specs.Setup.{ConfigLines}
 use Rattle.ts_config.specs.declared.setup.Setup.{Setup}
-use Rattle.ts_record.specs.Grammar.{TxnPieces}
+use Rattle.ts_record.specs.Grammar.{Contents, TxnPieces}
 use Rattle.ts_record.specs.Report.{report_text}
 use Rattle.ts_record.specs.declared.report.ReportBlock.{ReportBlock}
 use Rattle.ts_record.proofs.Same.{one_recording}
 use Rattle.ts_block.proofs.OneBlock.{one_block}
-use Rattle.ts_replay.specs.Reports.{AreBlocksOn, AreShown, HasOneReport, HaveOneList, IsTxnShown, in_report}
-use Rattle.ts_replay.proofs.SameLines.{block_same}
+use Rattle.ts_replay.specs.Reports.{AreBlocksOn, AreShown, HasOneReport, HaveOneList, IsShownBy, IsTxnShown}
+use Rattle.ts_replay.specs.Reports.{in_report, left_report, sides_of}
+use Rattle.ts_replay.proofs.Heads.{one_heads}
+use Rattle.ts_replay.proofs.SameLines.{block_same, heads_same}
 
 module _ (s t : Setup) (lines : s.transforms.items ≡ t.transforms.items)
     (plugins : s.plugins.items ≡ t.plugins.items) where
-  -- a transaction is shown by one block
+  -- what is shown of a transaction is one block, whether its client stays or leaves
+  shown_by : (leave : Option ℕ) (c o : List ℕ) (a b : ReportBlock) → IsShownBy leave s c o a
+      → IsShownBy leave t c o b → a ≡ b
+  shown_by None c o a b h k =
+      h.shows
+      ∙ ap in_report (one_block t true (false ≡ true) o c h.block k.block
+      (block_same s t lines plugins true (false ≡ true) o c h.block h.is_block) k.is_block)
+      ∙ sym k.shows
+  shown_by (Some most) c o a b h k =
+      let same = one_heads t c o h.request k.request h.head k.head
+      (heads_same s t lines plugins c o h.request h.head h.sends) k.sends in
+      h.shows
+      ∙ ap (λ request. left_report most request h.head) same.0
+      ∙ ap (λ head. left_report most k.request head) same.1
+      ∙ sym k.shows
+
   shown_one : (txn : TxnPieces) (a b : ReportBlock) → IsTxnShown s txn a → IsTxnShown t txn b → a ≡ b
   shown_one txn a b h k =
-      h.shows
-      ∙ ap in_report (one_block t true (false ≡ true) (concat txn.1) (concat txn.0) h.block k.block
-      (block_same s t lines plugins true (false ≡ true) (concat txn.1) (concat txn.0) h.block h.is_block)
-      k.is_block)
-      ∙ sym k.shows
+      let sides = sides_of txn in shown_by sides.leave sides.client sides.origin a b h k
 
   -- and transactions by one list of blocks
   list_one : (txns : List TxnPieces) (xs ys : List ReportBlock) → AreShown s txns xs → AreShown t txns ys
@@ -42,8 +55,10 @@ one_list lines txns a b h k =
 -- so their report is one
 pub one_report : HasOneReport
 one_report lines bytes a b h k =
+    let same : h.contents ≡ k.contents = one_recording bytes k.contents h.contents k.recording h.recording in
+    let blocks = one_list lines k.contents.txns h.blocks k.blocks
+    (subst (λ (r : Contents). AreBlocksOn lines r.txns h.blocks) same h.are) k.are in
     h.text_is
-    ∙ ap report_text (one_list lines k.txns h.blocks k.blocks
-    (subst (λ txns. AreBlocksOn lines txns h.blocks)
-    (one_recording bytes k.txns h.txns k.recording h.recording) h.are) k.are)
+    ∙ ap (λ (r : Contents). report_text r.version h.blocks) same
+    ∙ ap (report_text k.contents.version) blocks
     ∙ sym k.text_is

@@ -1,11 +1,12 @@
 -- Rows of groups of recorded transactions and hook plugins grow.
 use Rattle.std.proofs.Common.{◌≡◌, ℕ, ◌+◌, ◌≤◌, List, [], ◌∷◌, ◌++◌, length, length-append, map}
-use Rattle.std.proofs.Common.{append_assoc, false, true, Some, refl, sym, ap, subst, ◌∙◌, arith}
+use Rattle.std.proofs.Common.{append_assoc, false, true, Option, None, Some, refl, sym, ap, subst, ◌∙◌, arith}
 use Rattle.std.specs.Arc.{arc_value}
 use Rattle.std.proofs.lemmas.Bool.{OnTrue_from}
 use Rattle.std.proofs.lemmas.List.{append-nil, map-append}
 use Rattle.std.proofs.lemmas.Slice.Zip.{all_zipped_more}
 use Rattle.std.proofs.lemmas.List.Elements.{All-push}
+use Rattle.std.proofs.lemmas.Option.{same_Some}
 use Rattle.ts_config.specs.declared.fields.PluginLine.{PluginLine}
 use Rattle.ts_config.specs.declared.setup.Setup.{Setup}
 use Rattle.ts_group.specs.declared.action.Named.{Named}
@@ -16,14 +17,15 @@ use Rattle.ts_group.specs.Slot.{IsAtRest}
 use Rattle.ts_journal.specs.State.{State}
 use Rattle.ts_link.specs.Link.{IsSure}
 use Rattle.ts_link.specs.MemLink.{LinkState, look_of}
+use Rattle.ts_link.specs.declared.piece.Piece.{Piece}
 use Rattle.ts_plugin.specs.World.{OnlyAnswers}
 use Rattle.ts_plugin.specs.declared.plugin.Plugin.{Plugin}
 use Rattle.ts_plugin.specs.declared.plugin.PluginTag.{PluginTag}
 use Rattle.ts_record.specs.Grammar.{TxnPieces}
 use Rattle.ts_record.specs.Links.{recorded_side}
 use Rattle.ts_record.specs.declared.recording.TheConstants.{MOST_TXNS}
-use Rattle.ts_record.proofs.Links.{never_fails}
 use Rattle.ts_replay.specs.Members.{HookPlugin, Member, Transaction, numbered}
+use Rattle.ts_replay.specs.Recorded.{AllTakeSome, TakesSome}
 use Rattle.ts_replay.specs.Recorded.{FitsIn, HasPlainLines, IsNewTagOf, IsOfRowTag, IsOfTag, IsSoundRow}
 use Rattle.ts_replay.specs.Recorded.{IsSoundWith, IsTagOf, Recorded, RecordedTag, RowGroup, RowTag}
 use Rattle.ts_replay.specs.Rows.{AreGroupsOf}
@@ -47,14 +49,12 @@ taken_setup setup at lines low =
 
 -- ---- a group as it is made
 
--- a recorded side is sure
-sure_side : (pieces : List (List ℕ)) (made : LinkState) → made ≡ recorded_side pieces → IsSure (look_of made)
-sure_side pieces made is = let never = never_fails pieces made is in record {
-  fail_reads = never.fail_reads;
-  fail_writes = never.fail_writes;
-  again_reads = never.again_reads;
-  again_writes = never.again_writes;
-}
+-- no call of a recorded side fails or waits by its number
+sure_side : (pieces : List Piece) (leave : Option ℕ) (made : LinkState) → made ≡ recorded_side pieces leave
+    → IsSure (look_of made)
+sure_side pieces leave made is =
+    subst (λ (l : LinkState). IsSure (look_of l)) (sym is)
+    (record { fail_reads = refl; fail_writes = refl; again_reads = refl; again_writes = refl })
 
 -- a journal is at rest before its first turn
 at_first : (s : State) → s.held ≡ false → s.next ≡ 1 → IsAtRest false s
@@ -79,8 +79,8 @@ module _ (setup : Setup) (at number : ℕ) (txn : TxnPieces) (tag : RecordedTag)
     (is : IsTagOf setup at number txn false tag)
     (number_is : t.core.number ≡ number) (setup_is : arc_value t.core.setup ≡ setup)
     (plugins_at : t.core.plugins_at ≡ at)
-    (made : IsMadeOf look_of (recorded_side txn.0) t.core.client)
-    (made_origin : IsMadeOfIf look_of (Some (recorded_side txn.1)) t.core.origin) where
+    (made : IsMadeOf look_of (recorded_side txn.client txn.leave) t.core.client)
+    (made_origin : IsMadeOfIf look_of (Some (recorded_side txn.origin None)) t.core.origin) where
   -- it fits its tag
   fits_recorded : IsOfTag tag t
   fits_recorded =
@@ -89,9 +89,9 @@ module _ (setup : Setup) (at number : ℕ) (txn : TxnPieces) (tag : RecordedTag)
       (subst (λ l. IsMadeOf look_of l t.core.client) (sym is.client) made)
       (subst (λ o. IsMadeOfIf look_of o t.core.origin) (sym is.origin) made_origin)
       (λ sure. (
-        sure_side txn.0 tag.client.value is.client,
-        λ l of_origin. sure_side txn.1 l
-            (let same : Some l ≡ Some (recorded_side txn.1) = sym of_origin ∙ is.origin in cc),
+        sure_side txn.client txn.leave tag.client.value is.client,
+        λ l of_origin. sure_side txn.origin None l
+            (same_Some l (recorded_side txn.origin None) (sym of_origin ∙ is.origin)),
       ))
       is.started_is
 
@@ -115,7 +115,7 @@ fits_plugin tag p g line world fresh = (
   subst (λ w. IsSoundRow w g.cx.log.state g.cx.roles) (sym world)
       (subst OnlyAnswers (sym fresh.state) (record { only = refl; plain = tt })),
   at_first_asked g.cx.log.state (state_given g fresh) (first_number g fresh) (none_pending g fresh),
-  tt,
+  ap (λ b. b.made) fresh.base,
 )
 
 -- ---- a row grows
@@ -149,7 +149,15 @@ pub record RowBut (setup : Setup) (at : ℕ) (txns rest : List TxnPieces) (numbe
   pub done : List TxnPieces
   pub split : txns ≡ done ++ rest
   pub number_is : number ≡ length done
+  pub takes : AllTakeSome rest
   pub row : AreGroupsOf setup at (numbered 1 done) tags groups
+
+-- the next one takes some bytes, where its client leaves
+pub next_takes : (setup : Setup) (at : ℕ) (txns left rest : List TxnPieces) (txn : TxnPieces) (number : ℕ)
+    (tags : List RowTag) (groups : List RowGroup) → RowBut setup at txns left number tags groups
+    → left ≡ txn ∷ rest → TakesSome txn.leave
+next_takes setup at txns left rest txn number tags groups but is =
+    (subst AllTakeSome is but.takes).0
 
 -- one transaction more has
 pub row_more : (setup : Setup) (at : ℕ) (txns left rest : List TxnPieces) (txn : TxnPieces) (number next : ℕ)
@@ -165,6 +173,7 @@ row_more setup at txns left rest txn number next tags us groups hs tag group but
       done = but.done ++ txn ∷ [];
       split = but.split ∙ ap (λ l. but.done ++ l) is ∙ sym (append_assoc but.done (txn ∷ []) rest);
       number_is = omega (arith, here, length-append but.done (txn ∷ []));
+      takes = (subst AllTakeSome is but.takes).1;
       row = subst (λ ms. AreGroupsOf setup at ms us hs) (sym (numbered_more 1 next but.done txn here))
           (groups_more setup at (numbered 1 but.done) (Transaction next txn) tags us groups hs tag group
           but.row more moreover tagged fits new);

@@ -1,4 +1,4 @@
--- A block depends on nothing of a setup but its lines.
+-- A block, and the heads of one, depend on nothing of a setup but its lines.
 use Rattle.std.proofs.Common.{◌≡◌, ℕ, List, ◌∷◌, [], Bool, true, false, Some, Result, Ok, Err, ap, subst, ◌∙◌}
 use Rattle.std.proofs.Common.{inl, inr}
 use Rattle.std.specs.List.{list_any}
@@ -17,6 +17,10 @@ use Rattle.ts_block.specs.Own.{own_field, own_head, own_sent}
 use Rattle.ts_block.specs.Relayed.{client_framing, framing_of, if_body, length_told, mode_of, reads_chunks}
 use Rattle.ts_block.specs.Rules.{is_denied, ruled}
 use Rattle.ts_block.specs.declared.block.Block.{Block}
+use Rattle.ts_phases.specs.Facts.{Goes}
+use Rattle.ts_phases.specs.declared.phase.Request.{Request}
+use Rattle.ts_replay.specs.Heads.{SendsHeads}
+use Rattle.ts_replay.specs.Heads as heads
 use Rattle.ts_block.specs.declared.own_answer.OwnStatus.{OwnStatus}
 use Rattle.ts_block.specs.declared.own_answer.OwnStatus.TheVariants as O
 use Rattle.ts_wire.specs.Check.{check, is_absolute, plugin_host}
@@ -73,6 +77,15 @@ module _ (s t : Setup) (lines : s.transforms.items ≡ t.transforms.items)
       ap (λ ps. origin_text q.method (is_absolute q.target) q.minor target host
       (ruled S.Request ps (forwarded q.fields))) plugins
 
+  -- ---- the heads
+
+  goes_same : (c : List ℕ) (q : Request) → Goes s c q true → Goes t c q true
+  goes_same c q goes = record {
+    knows = goes.knows;
+    allowed = subst (λ ps. is_denied ps (plugin_host q.host) ≡ false) plugins goes.allowed;
+    has_origin = goes.has_origin;
+  }
+
   -- ---- case by case
 
   body_same : (request : List ℕ) (q : RequestHead) (h : ResponseHead) (rest : List ℕ) (b : Block)
@@ -118,3 +131,12 @@ module _ (s t : Setup) (lines : s.transforms.items ≡ t.transforms.items)
     block_same c b (silent none is) = silent none is
     block_same c b (no_head some lacks is) = no_head some lacks (is ∙ own_same [] O.BadRequest false)
     block_same c b (asked some q rest has says) = asked some q rest has (verdict_same (check q) q b says)
+
+  -- the heads that a transaction sends
+  pub heads_same : (c o request head : List ℕ) → SendsHeads s c o request head → SendsHeads t c o request head
+  heads_same c o request head (heads.decided b says is be) =
+      heads.decided b (block_same true (false ≡ true) o c b says) is be
+  heads_same c o request head (heads.passed_on q h rest goes final good is be) =
+      heads.passed_on q h rest (goes_same c q goes) final good
+      (is ∙ request_same q.head q.target q.host)
+      (be ∙ ap (λ (b : Block). b.head) (relayed_same request q.head h E.Whole []))

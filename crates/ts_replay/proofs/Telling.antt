@@ -1,71 +1,42 @@
 -- From what holds of a transaction that has ended to the block that it came to.
 use Rattle.std.proofs.Common.{◌≡◌, ◌≢◌, Result, Ok, Err, IfOk, take, drop, ℕ, List, [], ◌++◌, Bool, true}
 use Rattle.std.proofs.Common.{false, Option, Some, None, length, refl, sym, ap, subst, ◌∙◌, arith}
-use Rattle.std.specs.Prelude.{unwrap_or}
 use Rattle.std.proofs.lemmas.List.{append-nil, take_at, drop_at}
-use Rattle.ts_block.specs.Sent.{HasPlainRules}
+use Rattle.std.proofs.lemmas.Option.{same_Some}
 use Rattle.ts_config.specs.declared.setup.Setup.{Setup}
 use Rattle.ts_hooks.specs.declared.txn_end.TxnEnd.{TxnEnd}
 use Rattle.ts_hooks.specs.declared.txn_end.TxnEnd.TheVariants as E
-use Rattle.ts_link.specs.Counts.{Rose}
 use Rattle.ts_link.specs.Link.{Look, all_of}
 use Rattle.ts_link.specs.MemLink.{LinkState, look_of}
+use Rattle.ts_record.specs.Links.{GoesAsRecorded}
 use Rattle.ts_record.specs.Report.{IsReported}
 use Rattle.ts_record.specs.declared.report.ReportBlock.{ReportBlock}
 use Rattle.ts_block.specs.Block.{IsBlock}
-use Rattle.ts_phases.specs.Ends.{HasBlock, HasText, ShortEnd}
+use Rattle.ts_phases.specs.Ends.{EndFact, HasText, ShortEnd}
+use Rattle.ts_phases.specs.Facts.{TookExactly}
 use Rattle.ts_txn.specs.Making.{end_of_course, link_if}
-use Rattle.ts_txn.specs.Resting.{NeverFailed, SendsBlock}
-use Rattle.ts_txn.specs.Resting as rest
-use Rattle.ts_phases.specs.View.{HasFailed, LinkSide, View, is_dialed, refuses_if, side, side_if}
+use Rattle.ts_phases.specs.View.{HasFailed, side}
 use Rattle.ts_block.specs.declared.block.Block.{Block}
 use Rattle.ts_txn.specs.declared.making.TxnParts.{TxnParts}
-use Rattle.ts_phases.specs.declared.parts.Peer.{Peer}
-use Rattle.ts_phases.specs.declared.parts.Sent.{Sent}
-use Rattle.ts_txn.proofs.Resting.{rests_with_block}
 use Rattle.ts_wire.specs.Frames.{cut_body, frames}
 use Rattle.ts_replay.specs.Exchanged.{GotBy, HasGot, HasTaken, IsLeftBetween, IsRunBetween, LeavesBlock}
-use Rattle.ts_replay.specs.Recorded.{Recorded, recorded_origin}
-use Rattle.ts_stock.specs.StockTransform.{stock_transform}
-use Rattle.ts_upstream.specs.InMemory.{memory_link}
-use Rattle.ts_replay.specs.Reports.{IsShownOf, in_report}
+use Rattle.ts_replay.specs.Exchanged.{MayEnd, ShowsEnd}
+use Rattle.ts_replay.specs.Recorded.{Recorded}
+use Rattle.ts_replay.specs.Reports.{BothSides, IsShownBy, IsShownOf, in_report}
 use Rattle.ts_replay.specs.Unframing.{IsFramed}
-use Rattle.ts_replay.proofs.Blocks.{block_shaped}
-
--- an origin's link refuses no upload
-abbrev refuses_none : LinkState → List ℕ → Type 0
-refuses_none link list = false ≡ true
-
--- what a transaction saw whose origin's side was this
-abbrev viewed : LinkSide → Option (Peer LinkState) → Sent → View
-viewed client x sent = record {
-  client = client;
-  dialed = is_dialed x;
-  origin = side_if look_of x;
-  sent = sent;
-}
-
--- The parts and the origin's link are left of a transaction whose client's side and queued texts were
--- these, and whose links gave or may still give these bytes.
-record AreLeftOf (client : LinkSide) (sent : Sent) (c o : List ℕ) (parts : TxnParts LinkState LinkState)
-    (link : LinkState) : Type 0 where
-  look : client.look ≡ look_of parts.client
-  gives : all_of (look_of parts.client) ≡ c
-  answers : all_of (look_of link) ≡ o
-  head : parts.head ≡ sent.head
-  mode : parts.mode ≡ sent.mode
-  cuts : parts.cuts.items ≡ sent.cuts.items
+use Rattle.ts_replay.proofs.Blocks.{EndsBlankIf, block_shaped}
+use Rattle.ts_replay.proofs.Standing.{StandsEnded, no_fault, viewed}
 
 -- the block of all that two sides give
 abbrev pub IsBlockOf : Setup → List ℕ → List ℕ → Block → Type 0
 IsBlockOf setup c o b = IsBlock setup true (false ≡ true) o c b
 
 -- the block that a transaction came to which left these parts and ended so
-pub record HasBlockAt (setup : Setup) (c o : List ℕ) (parts : TxnParts LinkState LinkState) (link : LinkState)
-    (end : TxnEnd) : Type 0 where
-  pub reported : IsReported end
+pub record HasBlockAt (setup : Setup) (sides : BothSides) (parts : TxnParts LinkState LinkState)
+    (link : LinkState) (end : TxnEnd) : Type 0 where
+  pub may : MayEnd None end
   pub block : Block
-  pub is_block : IsBlockOf setup c o block
+  pub is_block : IsBlockOf setup sides.client sides.origin block
   pub leaves : LeavesBlock parts link end block
 
 -- where a body was cut or broke its framing, its block has none
@@ -74,170 +45,110 @@ got_short : (end : TxnEnd) (parts : TxnParts LinkState LinkState) (b : Block) (s
 got_short E.Whole parts b sent other none got = absurd (other refl)
 got_short _ parts b sent other none got = (none, (sent, got))
 
--- an ended transaction between a client and the origin of this link sent its block
-module _ (setup : Setup) (plain : HasPlainRules setup) (p : Peer LinkState)
-    (client : LinkSide) (sent : Sent) (cs c o : List ℕ) (parts : TxnParts LinkState LinkState)
-    (link : LinkState) (is : p.link ≡ link) (left : AreLeftOf client sent c o parts link) where
+module _ (setup : Setup) (sides : BothSides) (parts : TxnParts LinkState LinkState) (link : LinkState)
+    (s : StandsEnded setup sides parts link) where
   -- the block of what its links gave or may still give is that of these bytes
-  same_block : (b : Block) → IsBlockOf setup (all_of client.look) (all_of (look_of p.link)) b
-      → IsBlockOf setup c o b
+  pub same_block : (b : Block) → IsBlockOf setup (all_of s.client.look) (all_of (look_of s.origin.link)) b
+      → IsBlockOf setup sides.client sides.origin b
   same_block b says =
-      subst (λ l. IsBlockOf setup c l b) (ap (λ (l : LinkState). all_of (look_of l)) is ∙ left.answers)
-      (subst (λ l. IsBlockOf setup l (all_of (look_of p.link)) b)
-      (ap (λ (l : Look). all_of l) left.look ∙ left.gives) says)
+      subst (λ l. IsBlockOf setup sides.client l b)
+      (ap (λ (l : LinkState). all_of (look_of l)) s.origin_is ∙ s.answers)
+      (subst (λ l. IsBlockOf setup l (all_of (look_of s.origin.link)) b)
+      (ap (λ (l : Look). all_of l) s.look ∙ s.gives) says)
 
   -- the client took the head, and so much of a body
-  got_text : (b : Block) (body : List ℕ) (fin : Bool) → client.outbox ≡ []
-      → HasText client sent b.head body fin → HasGot parts b body fin
+  got_text : (b : Block) (body : List ℕ) (fin : Bool) → s.client.outbox ≡ []
+      → HasText s.client s.sent b.head body fin → HasGot parts b body fin
   got_text b body fin none h = record {
     pieces = h.pieces;
     each = h.each;
     text =
-        sym (ap (λ (l : Look). l.taken) left.look) ∙ sym (append-nil client.look.taken) ∙ ap
-        (λ w. client.look.taken ++ w) (sym none)
-        ∙ h.text ∙ ap (λ m. b.head ++ frames m h.pieces fin) (sym left.mode);
-    head = left.head ∙ h.head_is;
-    cuts = left.cuts ∙ h.cuts;
+        sym (ap (λ (l : Look). l.taken) s.look) ∙ sym (append-nil s.client.look.taken) ∙ ap
+        (λ w. s.client.look.taken ++ w) (sym none)
+        ∙ h.text ∙ ap (λ m. b.head ++ frames m h.pieces fin) (sym s.mode);
+    head = s.head ∙ h.head_is;
+    cuts = s.cuts ∙ h.cuts;
     body = h.body_is;
   }
 
-  -- the origin took the request
-  taken_of : (end : TxnEnd) (b : Block)
-      → HasBlock setup (refuses_if refuses_none (Some p) cs) (viewed client (Some p) sent) end b
-      → HasTaken link b
-  taken_of end b has = record {
-    upload = has.took.upload;
-    text = sym (ap (λ (l : LinkState). l.taken) is) ∙ has.took.text;
-    nothing = has.took.nothing;
-    ends = (block_shaped setup plain true (false ≡ true) _ _ b has.is_block).request;
+  -- the origin took this request
+  pub taken_of : (request : List ℕ) → EndsBlankIf request → TookExactly request (side look_of s.origin)
+      → HasTaken link request
+  taken_of request ends took = record {
+    upload = took.upload;
+    text = sym (ap (λ (l : LinkState). l.taken) s.origin_is) ∙ took.text;
+    nothing = took.nothing;
+    ends = ends;
   }
 
+  -- and so that of its block
+  pub block_taken : (b : Block) → IsBlockOf setup (all_of s.client.look) (all_of (look_of s.origin.link)) b
+      → TookExactly b.request (side look_of s.origin) → HasTaken link b.request
+  block_taken b says took =
+      taken_of b.request (block_shaped setup s.plain true (false ≡ true) _ _ b says).request took
+
   -- the block of a body that was cut, or that broke its framing
-  short_sent : (end : TxnEnd) → IsReported end → end ≢ E.Whole
-      → ShortEnd setup (refuses_if refuses_none (Some p) cs) (viewed client (Some p) sent) end
-      → HasBlockAt setup c o parts link end
-  short_sent end reported other s =
-      let shaped = block_shaped setup plain true (false ≡ true) _ _ s.block s.has.is_block in
-      let none = shaped.short (λ whole. other (sym s.has.ends ∙ whole)) in
+  short_sent : (end : TxnEnd) → MayEnd None end → end ≢ E.Whole
+      → ShortEnd setup (false ≡ true) (viewed s.client s.origin s.sent) end
+      → HasBlockAt setup sides parts link end
+  short_sent end may other short =
+      let shaped = block_shaped setup s.plain true (false ≡ true) _ _ short.block short.has.is_block in
+      let none = shaped.short (λ whole. other (sym short.has.ends ∙ whole)) in
       record {
-        reported = reported;
-        block = s.block;
-        is_block = same_block s.block s.has.is_block;
+        may = may;
+        block = short.block;
+        is_block = same_block short.block short.has.is_block;
         leaves = record {
-          end_is = s.has.ends;
-          taken = taken_of end s.block s.has;
-          got = got_short end parts s.block s.sent other none
-              (got_text s.block s.sent false s.has.no_waits s.text);
+          end_is = short.has.ends;
+          taken = block_taken short.block short.has.is_block short.has.took;
+          got = got_short end parts short.block short.sent other none
+              (got_text short.block short.sent false short.has.no_waits short.text);
         };
       }
 
-  block_sent : (end : TxnEnd)
-      → SendsBlock setup (refuses_if refuses_none (Some p) cs) (viewed client (Some p) sent) end
-      → HasBlockAt setup c o parts link end
-  block_sent E.Whole (rest.SendsBlock.whole w) = record {
-    reported = tt;
-    block = w.block;
-    is_block = same_block w.block w.has.is_block;
+  -- one whose client stays, and for which memory did not lack, came to a block
+  block_sent : (HasFailed s.client → ⊥) → (end : TxnEnd) → end ≢ E.NoMemory
+      → EndFact setup (false ≡ true) (viewed s.client s.origin s.sent) end
+      → HasBlockAt setup sides parts link end
+  block_sent sure E.Whole other fact = record {
+    may = tt;
+    block = fact.by.block;
+    is_block = same_block fact.by.block fact.by.has.is_block;
     leaves = record {
-      end_is = w.has.ends;
-      taken = taken_of E.Whole w.block w.has;
-      got = got_text w.block w.block.body true w.has.no_waits w.text;
+      end_is = fact.by.has.ends;
+      taken = block_taken fact.by.block fact.by.has.is_block fact.by.has.took;
+      got = got_text fact.by.block fact.by.block.body true fact.by.has.no_waits fact.by.text;
     };
   }
-  block_sent E.OriginCut (rest.SendsBlock.cut s) = short_sent E.OriginCut tt (λ whole. cc) s
-  block_sent E.OriginBad (rest.SendsBlock.bad s) = short_sent E.OriginBad tt (λ whole. cc) s
-  block_sent _ sends = elim sends [ ]
+  block_sent sure E.OriginCut other fact = short_sent E.OriginCut tt (λ whole. cc) fact.by
+  block_sent sure E.OriginBad other fact = short_sent E.OriginBad tt (λ whole. cc) fact.by
+  block_sent sure E.OriginFault other fact = absurd (s.never fact.by.failed)
+  block_sent sure E.ClientFault other fact = absurd (sure fact.by)
+  block_sent sure E.NoMemory other fact = absurd (other refl)
 
--- the same, where the origin's side may lack
-sent_if : (setup : Setup) (x : Option (Peer LinkState)) (client : LinkSide) (sent : Sent) (cs c o : List ℕ)
-    (parts : TxnParts LinkState LinkState) (link : LinkState) → HasPlainRules setup
-    → link_if x ≡ Some link → AreLeftOf client sent c o parts link → (end : TxnEnd)
-    → SendsBlock setup (refuses_if refuses_none x cs) (viewed client x sent) end
-    → HasBlockAt setup c o parts link end
-sent_if setup None client sent cs c o parts link plain is left end sends = absurd (cc)
-sent_if setup (Some p) client sent cs c o parts link plain is left end sends =
-    block_sent setup plain p client sent cs c o parts link (ap (λ m. unwrap_or m p.link) is) left end sends
-
--- no fault is counted, so none was met
-never_rose : (base faults : ℕ) → faults ≡ 0 → Rose base faults → ⊥
-never_rose base faults none rose = omega (arith, none, rose)
-
--- and the origin's side has not failed
-never_failed : (x : Option (Peer LinkState)) (link : LinkState) → link_if x ≡ Some link → link.faults ≡ 0
-    → HasFailed (side_if look_of x) → ⊥
-never_failed None link is none failed = cc
-never_failed (Some p) link is none failed = never_rose p.base p.link.faults
-    (ap (λ m. (unwrap_or m p.link).faults) is ∙ none) failed
-
--- the source of the origin's link
-source_of : (x : Option (Peer LinkState)) (link : LinkState) → link_if x ≡ Some link
-    → (look_of link).source ≡ (side_if look_of x).look.source
-source_of None link is = absurd (cc)
-source_of (Some p) link is = ap (λ m. (look_of (unwrap_or m p.link)).source) (sym is)
-
--- of a transaction between two sides of which no call failed, and each of which gave or may still give all of
--- its bytes
-module _ (setup : Setup) (c o : List ℕ) (parts : TxnParts LinkState LinkState) (link : LinkState)
-    (h : IsLeftBetween setup c o parts) (dialed : parts.origin ≡ Some link)
-    (of_client : parts.client.faults ≡ 0) (of_link : link.faults ≡ 0)
-    (whole : all_of (look_of parts.client) ≡ (look_of parts.client).source)
-    (whole_link : all_of (look_of link) ≡ (look_of link).source) where
-  -- where memory did not lack, it has ended, and came to a block
-  block_for : (parts.end ≡ Some E.NoMemory → ⊥)
-      → (end : TxnEnd) × (parts.end ≡ Some end) × HasBlockAt setup c o parts link end
-  block_for memory =
-      let t = h.txn in
-      let run = h.run in
-      let is : link_if t.core.origin ≡ Some link = sym h.links.1 ∙ dialed in
-      let left : AreLeftOf (side look_of t.core.client) t.core.sent c o parts link = record {
-        look = ap look_of (sym h.links.0);
-        gives = whole ∙ ap (λ (l : LinkState). (look_of l).source) h.links.0 ∙ run.gives;
-        answers = whole_link ∙ source_of t.core.origin link is ∙ run.answers;
-        head = h.sent.0;
-        mode = h.sent.1;
-        cuts = h.sent.2;
-      } in
-      let never : NeverFailed (viewed (side look_of t.core.client) t.core.origin t.core.sent) = record {
-        client = never_rose t.core.client.base t.core.client.link.faults
-            (ap (λ (l : LinkState). l.faults) (sym h.links.0) ∙ of_client);
-        origin = never_failed t.core.origin link is of_link;
-      } in
-      let rested =
-      rests_with_block memory_link memory_link recorded_origin stock_transform t
-      run.next run.roles run.sound
-      run.started run.left never (λ lacks. memory (h.end_is ∙ lacks)) refl refl in (
-        rested.0,
-        h.end_is ∙ rested.1,
-        sent_if setup t.core.origin (side look_of t.core.client) t.core.sent
-            (look_of t.core.client.link).source c o parts link run.plain is
-            left rested.0
-            (subst (λ s. SendsBlock s (refuses_if refuses_none t.core.origin
-            (look_of t.core.client.link).source) (viewed (side look_of t.core.client) t.core.origin
-            t.core.sent) rested.0)
-            run.setup_is rested.2),
-      )
-
-  -- the block by its end, where memory did not lack
-  pub block_at : (end : TxnEnd) → parts.end ≡ Some end → end ≢ E.NoMemory
-      → HasBlockAt setup c o parts link end
-  block_at end is other =
-      let found = block_for (λ lacks. other (ap (λ m. unwrap_or m end) (sym is ∙ lacks))) in
-      subst (HasBlockAt setup c o parts link) (ap (λ m. unwrap_or m end) (sym found.1 ∙ is)) found.2
+  -- by the end that it left
+  pub block_at : GoesAsRecorded parts.client → sides.leave ≡ None → (end : TxnEnd) → parts.end ≡ Some end
+      → end ≢ E.NoMemory → HasBlockAt setup sides parts link end
+  block_at goes stays end is other =
+      let same : s.end ≡ end = same_Some s.end end (sym s.end_is ∙ is) in
+      let none = no_fault parts.client goes (s.leaves ∙ stays) in
+      subst (HasBlockAt setup sides parts link) same
+      (block_sent
+      (λ failed. let some = s.failed failed in absurd (omega (arith, none, some)))
+      s.end (λ lacks. other (sym same ∙ lacks)) s.fact)
 
   -- it has an end
   pub has_ended : parts.end ≡ None → ⊥
-  has_ended none =
-      let found = block_for (λ lacks. let both = sym none ∙ lacks in cc) in
-      let both = sym found.1 ∙ none in cc
+  has_ended none = let both : Some s.end ≡ None = sym s.end_is ∙ none in cc
 
 -- what is left of a transaction that was run between two sides
-pub left_between : (setup : Setup) (c o : List ℕ) (t : Recorded) (parts : TxnParts LinkState LinkState)
-    → IsRunBetween setup c o t
+pub left_between : (setup : Setup) (sides : BothSides) (t : Recorded) (parts : TxnParts LinkState LinkState)
+    → IsRunBetween setup sides t
     → (parts.client ≡ t.core.client.link) × (parts.origin ≡ link_if t.core.origin)
     → (parts.head ≡ t.core.sent.head) × (parts.mode ≡ t.core.sent.mode) ×
-    (parts.cuts.items ≡ t.core.sent.cuts.items) → parts.end ≡ end_of_course t.course → IsLeftBetween setup c o
-    parts
-left_between setup c o t parts run links sent ends = record
+    (parts.cuts.items ≡ t.core.sent.cuts.items) → parts.end ≡ end_of_course t.course
+    → IsLeftBetween setup sides parts
+left_between setup sides t parts run links sent ends = record
     { txn = t; run = run; links = links; sent = sent; end_is = ends }
 
 -- the frames behind the head of a whole answer
@@ -298,14 +209,39 @@ block_same request end head content b p q r s = λ i. record
     { request = p i; end = q i; head = r i; content = s i }
 
 -- the block that was cut out of the parts is the one that is shown
-module _ {X : Type 0} (setup : Setup) (c o : List ℕ) (b : Block) where
-  pub shows_if : (r : Result ReportBlock X) → IsBlockOf setup c o b → IfOk r (λ s. s ≡ in_report b)
-      → IfOk r (IsShownOf setup c o)
-  shows_if (Ok s) says is = record { block = b; is_block = says; shows = is }
+module _ {X : Type 0} (setup : Setup) (sides : BothSides) (stays : sides.leave ≡ None) (b : Block) where
+  pub shows_if : (r : Result ReportBlock X) → IsBlockOf setup sides.client sides.origin b
+      → IfOk r (λ s. s ≡ in_report b) → IfOk r (IsShownOf setup sides)
+  shows_if (Ok s) says is =
+      subst (λ l. IsShownBy l setup sides.client sides.origin s) (sym stays)
+      (record { block = b; is_block = says; shows = is })
   shows_if (Err e) says is = tt
 
--- and so is its end
-pub ends_if : {X : Type 0} (b : Block) (P : TxnEnd → Type 0) (r : Result ReportBlock X) → P b.end
-    → IfOk r (λ s. s ≡ in_report b) → IfOk r (λ s. P s.end)
-ends_if b P (Ok s) holds is = subst P (sym (ap (λ (x : ReportBlock). x.end) is)) holds
-ends_if b P (Err e) holds is = tt
+  -- and so is its end
+  pub shows_end : (r : Result ReportBlock X) (end : Option TxnEnd) → end ≡ Some b.end → MayEnd None b.end
+      → IfOk r (λ s. s ≡ in_report b) → IfOk r (λ s. ShowsEnd sides.leave end s.end)
+  shows_end (Ok s) end ends may is =
+      let same : b.end ≡ s.end = sym (ap (λ (x : ReportBlock). x.end) is) in
+      subst (λ l. ShowsEnd l end s.end) (sym stays) (ends ∙ ap Some same, subst (MayEnd None) same may)
+  shows_end (Err e) end ends may is = tt
+
+-- where no client leaves, a report names how a transaction may end
+pub may_report : (end : TxnEnd) → MayEnd None end → IsReported end
+may_report E.ClientFault may = absurd may
+may_report E.Whole may = may
+may_report E.OriginCut may = may
+may_report E.OriginBad may = may
+may_report E.OriginFault may = may
+may_report E.NoMemory may = may
+
+-- a report names it
+pub ends_if : {X : Type 0} (made : ReportBlock) (r : Result ReportBlock X) → IsReported made.end
+    → IfOk r (λ s. s ≡ made) → IfOk r (λ s. IsReported s.end)
+ends_if made (Ok s) reported is = subst IsReported (sym (ap (λ (x : ReportBlock). x.end) is)) reported
+ends_if made (Err e) reported is = tt
+
+-- what a block says of an end it says of the same end
+pub ends_as : {X : Type 0} (r : Result ReportBlock X) (leave : Option ℕ) (end other : Option TxnEnd)
+    → end ≡ other → IfOk r (λ b. ShowsEnd leave end b.end) → IfOk r (λ b. ShowsEnd leave other b.end)
+ends_as (Ok b) leave end other same shows = subst (λ e. ShowsEnd leave e b.end) same shows
+ends_as (Err e) leave end other same shows = tt

@@ -1,6 +1,6 @@
 -- A recorded transaction that has ended, and what it left.
 use Rattle.std.specs.Prelude.{◌≡◌, ◌⊎◌, ℕ, ◌<◌, List, [], ◌∷◌, ◌++◌, length, map, All, Bool, true, false}
-use Rattle.std.specs.Prelude.{Some, codes, ⊤}
+use Rattle.std.specs.Prelude.{IsSomeAnd, None, Option, Some, codes, take, ⊤}
 use Rattle.std.specs.Arc.{arc_value}
 use Rattle.memchr.specs.Find.{OccursAt}
 use Rattle.ts_block.specs.Sent.{HasPlainRules}
@@ -10,11 +10,12 @@ use Rattle.ts_group.specs.declared.either.Either.TheVariants.{One, Other}
 use Rattle.ts_hooks.specs.declared.txn_end.TxnEnd.{TxnEnd}
 use Rattle.ts_hooks.specs.declared.txn_end.TxnEnd.TheVariants as E
 use Rattle.ts_journal.specs.declared.entry.TheConstants.{GREATEST}
+use Rattle.ts_link.specs.Link.{Look, Plan}
 use Rattle.ts_link.specs.MemLink.{LinkState, look_of}
 use Rattle.ts_record.specs.Report.{IsReported}
 use Rattle.ts_record.specs.declared.report.ReportBlock.{ReportBlock}
-use Rattle.ts_replay.specs.Recorded.{IsSoundWith, Recorded, RowWorld}
-use Rattle.ts_replay.specs.Reports.{IsShownOf}
+use Rattle.ts_replay.specs.Recorded.{IsSoundWith, Recorded, RowWorld, TakesSome}
+use Rattle.ts_replay.specs.Reports.{BothSides, IsShownOf}
 use Rattle.ts_txn.specs.CourseCover.{is_fresh_on}
 use Rattle.ts_txn.specs.Making.{end_of_course, link_if}
 use Rattle.ts_phases.specs.View.{is_dialed, side_if}
@@ -22,15 +23,26 @@ use Rattle.ts_block.specs.declared.block.Block.{Block}
 use Rattle.ts_txn.specs.declared.making.TxnParts.{TxnParts}
 use Rattle.ts_wire.specs.Frames.{IsPiece, cut_body, frames}
 
+-- how many bytes a link takes in all, where it leaves
+abbrev pub leave_told : Option Plan → Option ℕ
+leave_told None = None
+leave_told (Some p) = p.leave
+
+abbrev pub leave_of : Look → Option ℕ
+leave_of l = leave_told l.plan
+
 -- The transaction is one of this setup, whose header rules leave alone what the proxy sees to itself, between
--- two sides that give these bytes. It was started, nothing of its group is pending, the group has an event
--- number left, and what is to hold of it holds.
-pub record IsRunBetween (setup : Setup) (c o : List ℕ) (t : Recorded) : Type 0 where
+-- two sides that give these bytes, of which the client leaves or stays. It was started, nothing of its group
+-- is pending, the group has an event number left, and what is to hold of it holds.
+pub record IsRunBetween (setup : Setup) (sides : BothSides) (t : Recorded) : Type 0 where
   pub setup_is : arc_value t.core.setup ≡ setup
   pub plain : HasPlainRules setup
-  pub gives : (look_of t.core.client.link).source ≡ c
+  pub gives : (look_of t.core.client.link).source ≡ sides.client
+  pub leaves : leave_of (look_of t.core.client.link) ≡ sides.leave
+  pub takes_some : TakesSome sides.leave
   pub dialed : is_dialed t.core.origin ≡ true
-  pub answers : (side_if look_of t.core.origin).look.source ≡ o
+  pub answers : (side_if look_of t.core.origin).look.source ≡ sides.origin
+  pub stays : leave_of (side_if look_of t.core.origin).look ≡ None
   pub started : is_fresh_on t.course ≡ false
   pub next : ℕ
   pub left : next < GREATEST
@@ -38,9 +50,10 @@ pub record IsRunBetween (setup : Setup) (c o : List ℕ) (t : Recorded) : Type 0
   pub sound : IsSoundWith t [] next roles
 
 -- what is left of such a transaction
-pub record IsLeftBetween (setup : Setup) (c o : List ℕ) (parts : TxnParts LinkState LinkState) : Type 0 where
+pub record IsLeftBetween (setup : Setup) (sides : BothSides) (parts : TxnParts LinkState LinkState)
+    : Type 0 where
   pub txn : Recorded
-  pub run : IsRunBetween setup c o txn
+  pub run : IsRunBetween setup sides txn
   pub links : (parts.client ≡ txn.core.client.link) × (parts.origin ≡ link_if txn.core.origin)
   pub sent : (parts.head ≡ txn.core.sent.head) × (parts.mode ≡ txn.core.sent.mode)
       × (parts.cuts.items ≡ txn.core.sent.cuts.items)
@@ -56,12 +69,12 @@ pub record EndsBlank (text : List ℕ) : Type 0 where
   pub text_is : text ≡ front ++ blank_end
   pub once : (place : ℕ) → OccursAt text blank_end place → place ≡ length front
 
--- an origin took the request of a block, behind which there is at most an upload
-pub record HasTaken (origin : LinkState) (b : Block) : Type 0 where
+-- an origin took this request, behind which there is at most an upload
+pub record HasTaken (origin : LinkState) (request : List ℕ) : Type 0 where
   pub upload : List ℕ
-  pub text : origin.taken ≡ b.request ++ upload
-  pub nothing : b.request ≡ [] → upload ≡ []
-  pub ends : (b.request ≡ []) ⊎ EndsBlank b.request
+  pub text : origin.taken ≡ request ++ upload
+  pub nothing : request ≡ [] → upload ≡ []
+  pub ends : (request ≡ []) ⊎ EndsBlank request
 
 -- the client took the head of the block, and behind it this much of a body in pieces in their frames, with
 -- its end or without
@@ -83,20 +96,40 @@ GotBy other parts b = (b.body ≡ []) × ((sent : List ℕ) × HasGot parts b se
 pub record LeavesBlock (parts : TxnParts LinkState LinkState) (origin : LinkState) (end : TxnEnd)
     (b : Block) : Type 0 where
   pub end_is : b.end ≡ end
-  pub taken : HasTaken origin b
+  pub taken : HasTaken origin b.request
   pub got : GotBy end parts b
+
+-- A transaction between this origin and a client that leaves after so many bytes sent these heads: the origin
+-- took the one, and the client the first so many bytes of the other, or all of it.
+pub record LeavesHeads (parts : TxnParts LinkState LinkState) (origin : LinkState) (most : ℕ)
+    (request head : List ℕ) : Type 0 where
+  pub taken : HasTaken origin request
+  pub got : take parts.head parts.client.taken ≡ take most head
 
 -- ---- what is shown of it
 
--- the block tells how a transaction ended, and is the one of whatever setup and two sides it ran between
+-- how a transaction may end: for its client's fault only where the client leaves
+abbrev pub MayEnd : Option ℕ → TxnEnd → Type 0
+MayEnd None E.ClientFault = ⊥
+MayEnd None end = IsReported end
+MayEnd (Some most) end = IsReported end
+
+-- What a block says of an end: the end itself, where the client stays. Where it leaves, the transaction has
+-- ended so or otherwise, and the block says that the client left.
+abbrev pub ShowsEnd : Option ℕ → Option TxnEnd → TxnEnd → Type 0
+ShowsEnd None end shown = (end ≡ Some shown) × MayEnd None shown
+ShowsEnd (Some most) end shown = IsSomeAnd end (MayEnd (Some most)) × (shown ≡ E.ClientFault)
+
+-- the block is the one of whatever setup and two sides a transaction ran between, and tells how it ended
 pub record TellsOf (t : Recorded) (b : ReportBlock) : Type 0 where
-  pub shown : (setup : Setup) (c o : List ℕ) → IsRunBetween setup c o t → IsShownOf setup c o b
-  pub ended : end_of_course t.course ≡ Some b.end
+  pub shown : (setup : Setup) (sides : BothSides) → IsRunBetween setup sides t → IsShownOf setup sides b
+  pub ended : (setup : Setup) (sides : BothSides) → IsRunBetween setup sides t
+      → ShowsEnd sides.leave (end_of_course t.course) b.end
   pub reported : IsReported b.end
 
 -- where the world of a group is a transaction, it has run
 abbrev pub HasRun : RowWorld → Type 0
-HasRun (One t) = (setup : Setup) × (c : List ℕ) × (o : List ℕ) × IsRunBetween setup c o t
+HasRun (One t) = (setup : Setup) × (sides : BothSides) × IsRunBetween setup sides t
 HasRun (Other p) = ⊤
 
 -- the block of a transaction stands behind others, and a plugin has none

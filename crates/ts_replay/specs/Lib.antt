@@ -1,4 +1,5 @@
 pub mod Exchanged
+pub mod Heads
 pub mod Members
 pub mod Recorded
 pub mod Replayed

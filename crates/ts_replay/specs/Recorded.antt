@@ -1,5 +1,6 @@
 -- The row of a replay: its groups with the tags of their slots, and what is to hold of each.
-use Rattle.std.specs.Prelude.{◌≡◌, ℕ, List, Bool, true, false, Some, ⊤}
+use Rattle.std.specs.List.{AllByRecursion}
+use Rattle.std.specs.Prelude.{◌≡◌, ◌≤◌, ℕ, List, Bool, true, false, Option, None, Some, ⊤}
 use Rattle.ts_block.specs.Sent.{HasPlainRules}
 use Rattle.ts_config.specs.Reading.{AreFew}
 use Rattle.ts_config.specs.Setup.{lines_of}
@@ -53,17 +54,29 @@ pub record HasPlainLines (setup : Setup) : Type 0 where
   pub few : AreFew (lines_of setup)
   pub plain : HasPlainRules setup
 
+-- a client that leaves takes at least one byte before
+abbrev pub TakesSome : Option ℕ → Type 0
+TakesSome None = ⊤
+TakesSome (Some most) = 1 ≤ most
+
+-- the clients of these transactions do
+abbrev pub AllTakeSome : List TxnPieces → Type 0
+AllTakeSome txns = AllByRecursion (λ txn. TakesSome txn.leave) txns
+
 -- ---- the tags
 
--- The tag is that of the transaction of this number between sides that give these pieces: its links are sure,
--- its slot had no other tenant, and it was started or not. It asks plugins in the groups from `at` on.
+-- The tag is that of the transaction of this number between sides that give these pieces, with their stalls,
+-- of which the client takes at least one byte before it leaves, if it does: no call of its links fails or waits
+-- by its number, its slot had no other tenant, and it was started or not. It asks plugins in the groups from
+-- `at` on.
 pub record IsTagOf (setup : Setup) (at number : ℕ) (txn : TxnPieces) (started : Bool)
     (tag : RecordedTag) : Type 0 where
   pub number_is : tag.number ≡ number
   pub setup_is : tag.setup.value ≡ setup
   pub plugins_at : tag.plugins_at ≡ at
-  pub client : tag.client.value ≡ recorded_side txn.0
-  pub origin : tag.origin.value ≡ Some (recorded_side txn.1)
+  pub client : tag.client.value ≡ recorded_side txn.client txn.leave
+  pub origin : tag.origin.value ≡ Some (recorded_side txn.origin None)
+  pub takes_some : TakesSome txn.leave
   pub sure : tag.sure ≡ true
   pub first : tag.first ≡ true
   pub started_is : tag.started ≡ started
@@ -114,8 +127,9 @@ HasRowBegun = OfBoth HasTxnBegun (λ old new. new ≡ old)
 abbrev pub is_asked_only : RowTag → Bool
 is_asked_only = tag_of (λ t. false) (λ p. true)
 
+-- a plugin is always the first tenant of its slot
 abbrev pub is_first : RowTag → Bool
-is_first = tag_of (λ t. t.first) (λ p. false)
+is_first = tag_of (λ t. t.first) (λ p. true)
 
 -- its group fits the tag
 abbrev pub FitsIn : RowTag → RowGroup → Type 0

@@ -1,35 +1,25 @@
 -- What the replay of transactions comes to: the groups in which they and the hook plugins ran, their journals
 -- and the blocks of the transactions.
-use Rattle.std.specs.Prelude.{◌≡◌, ℕ, ◌+◌, ◌<◌, List, [], All, true, false, length, map, IsSomeAnd}
+use Rattle.std.specs.Prelude.{◌≡◌, ℕ, ◌+◌, ◌<◌, ◌≤◌, List, [], All, true, false, length, map, IsSomeAnd}
 use Rattle.std.specs.List.{AllZip}
 use Rattle.ts_config.specs.Setup.{ConfigLines, lines_of}
 use Rattle.ts_config.specs.declared.fields.PluginLine.{PluginLine}
 use Rattle.ts_config.specs.declared.setup.Setup.{Setup}
 use Rattle.ts_group.specs.declared.either.Either.TheVariants.{One, Other}
+use Rattle.ts_journal.specs.Final.{IsFinal}
 use Rattle.ts_journal.specs.Log.{Log}
-use Rattle.ts_journal.specs.Machine.{HasLived, IsLawful, replay}
 use Rattle.ts_journal.specs.declared.entry.TheConstants.{GREATEST}
 use Rattle.ts_plugin.specs.World.{OnlyAnswers}
 use Rattle.ts_plugin.specs.declared.plugin.Plugin.{Plugin}
 use Rattle.ts_record.specs.Grammar.{TxnPieces}
-use Rattle.ts_record.specs.Report.{AreReported, IsReported}
+use Rattle.ts_record.specs.Report.{AreReported}
+use Rattle.ts_replay.specs.Exchanged.{MayEnd}
 use Rattle.ts_replay.specs.Members.{HookPlugin, Member, Transaction, members}
 use Rattle.ts_replay.specs.Recorded.{HasPlainLines, IsOfTag, IsSoundRecorded, IsTagOf, Recorded, RecordedTag}
 use Rattle.ts_replay.specs.Recorded.{RowGroup}
 use Rattle.ts_replay.specs.Reports.{AreShown}
 use Rattle.ts_replay.specs.declared.outcomes.Replayed.{Replayed}
 use Rattle.ts_txn.specs.Making.{end_of_course}
-
--- A journal that is lawful from its base on and not held, with nothing pending. Its state, and so its counts,
--- are those of its whole life: of the events that were set in it, before its base too, each was handled,
--- cancelled or dropped.
-pub record IsFinal (j : Log) : Type 0 where
-  pub lawful : IsLawful j.base.state j.entries
-  pub state : j.state ≡ replay j.base.state j.entries
-  pub lived : HasLived j.base.made j.state
-  pub given : j.state.held ≡ false
-  pub none : j.state.pending ≡ []
-  pub closed : j.state.set_count ≡ j.state.handled_count + j.state.cancelled_count + j.state.dropped_count
 
 -- The transaction of this number has run in its group, until nothing of it was pending: it is the one that
 -- its tag names, which was started and asks plugins in the groups from `at` on, and event numbers are left.
@@ -49,13 +39,16 @@ pub record HasRunAs (setup : Setup) (at number : ℕ) (pieces : TxnPieces) (grou
   pub numbers : group.cx.log.state.next < GREATEST
 
 -- The plugin of this line stands in its group, of which nothing is pending, and what is to hold of it holds.
+-- The group began with no turn, and each event that was set in it had a turn of its own.
 pub record HasRestedAs (line : PluginLine) (group : RowGroup) : Type 0 where
   pub plugin : Plugin
   pub is_plugin : group.world ≡ Other plugin
   pub line_is : plugin.line ≡ line
   pub sound : OnlyAnswers group.cx.log.state
+  pub began : group.cx.log.base.made ≡ 0
   pub idle : group.cx.log.state.pending ≡ []
   pub given : group.cx.log.state.held ≡ false
+  pub numbers : group.cx.log.state.next ≤ group.cx.log.state.turns + 1
 
 -- a member of the row is done in its group
 abbrev pub IsDoneAs : Setup → ℕ → Member → RowGroup → Type 0
@@ -67,10 +60,10 @@ abbrev pub AreDone : Setup → List TxnPieces → List RowGroup → Type 0
 AreDone setup txns groups =
     AllZip (IsDoneAs setup (length txns)) (members setup.plugins.items txns) groups
 
--- and a transaction has ended, so that its block tells how
+-- and a transaction has ended, so that its block tells how, or that its client left
 pub record HasEndedAs (setup : Setup) (at number : ℕ) (pieces : TxnPieces) (group : RowGroup) : Type 0 where
   pub ran : HasRunAs setup at number pieces group
-  pub ended : IsSomeAnd (end_of_course ran.txn.course) IsReported
+  pub ended : IsSomeAnd (end_of_course ran.txn.course) (MayEnd pieces.leave)
 
 abbrev pub IsReplayOf : Setup → ℕ → Member → RowGroup → Type 0
 IsReplayOf setup at (Transaction number pieces) group = HasEndedAs setup at number pieces group

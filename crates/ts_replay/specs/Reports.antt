@@ -1,28 +1,68 @@
 -- The blocks that the transactions of a recording come to, and the report that is made of them.
-use Rattle.std.specs.Prelude.{◌≡◌, ℕ, List, true, false}
-use Rattle.std.specs.List.{AllZip, concat}
+use Rattle.std.specs.Prelude.{◌≡◌, ℕ, List, [], take, true, false, Option, None, Some}
+use Rattle.std.specs.List.{AllZip}
 use Rattle.ts_config.specs.Setup.{ConfigLines, lines_of}
 use Rattle.ts_config.specs.declared.setup.Setup.{Setup}
-use Rattle.ts_record.specs.Grammar.{TxnPieces, IsRecording}
+use Rattle.ts_hooks.specs.declared.txn_end.TxnEnd.TheVariants as E
+use Rattle.ts_link.specs.Inputs.{bytes_of}
+use Rattle.ts_record.specs.Grammar.{Contents, IsRecording, TxnPieces}
 use Rattle.ts_record.specs.Report.{report_text}
 use Rattle.ts_record.specs.declared.report.ReportBlock.{ReportBlock}
 use Rattle.ts_block.specs.Block.{IsBlock}
 use Rattle.ts_block.specs.declared.block.Block.{Block}
+use Rattle.ts_replay.specs.Heads.{SendsHeads}
+
+-- What is known of the two sides of a transaction: all bytes that each sends, and how many the client takes,
+-- where it leaves.
+pub record BothSides : Type 0 where
+  pub client : List ℕ
+  pub origin : List ℕ
+  pub leave : Option ℕ
+
+-- of a recorded one: where its sides stall makes no difference
+abbrev pub sides_of : TxnPieces → BothSides
+sides_of txn =
+    record { client = bytes_of txn.client; origin = bytes_of txn.origin; leave = txn.leave }
+
+-- ---- one transaction
 
 -- a block as a report shows it
 abbrev pub in_report : Block → ReportBlock
 in_report b = record { request = b.request; end = b.end; head = b.head; content = b.body }
 
--- What is shown of a transaction between two sides: the block of all that they give, each followed by its
--- end.
-pub record IsShownOf (setup : Setup) (client origin : List ℕ) (b : ReportBlock) : Type 0 where
+-- what a report shows where the client left after so many bytes: the request, and what it got of the head
+abbrev pub left_report : ℕ → List ℕ → List ℕ → ReportBlock
+left_report most request head =
+    record { request = request; end = E.ClientFault; head = take most head; content = [] }
+
+-- What is shown of a transaction whose client stays: the block of all that the two sides give, each followed
+-- by its end.
+pub record IsShownWhole (setup : Setup) (client origin : List ℕ) (b : ReportBlock) : Type 0 where
   pub block : Block
   pub is_block : IsBlock setup true (false ≡ true) origin client block
   pub shows : b ≡ in_report block
 
+-- What is shown of one whose client leaves after so many bytes, whatever its end: the request of that block,
+-- and the first so many bytes of its head.
+pub record IsShownLeft (setup : Setup) (client origin : List ℕ) (most : ℕ) (b : ReportBlock) : Type 0 where
+  pub request : List ℕ
+  pub head : List ℕ
+  pub sends : SendsHeads setup client origin request head
+  pub shows : b ≡ left_report most request head
+
+abbrev pub IsShownBy : Option ℕ → Setup → List ℕ → List ℕ → ReportBlock → Type 0
+IsShownBy None setup client origin b = IsShownWhole setup client origin b
+IsShownBy (Some most) setup client origin b = IsShownLeft setup client origin most b
+
+-- what is shown of a transaction between two sides
+abbrev pub IsShownOf : Setup → BothSides → ReportBlock → Type 0
+IsShownOf setup sides b = IsShownBy sides.leave setup sides.client sides.origin b
+
 -- and of a recorded transaction
 abbrev pub IsTxnShown : Setup → TxnPieces → ReportBlock → Type 0
-IsTxnShown setup txn b = IsShownOf setup (concat txn.0) (concat txn.1) b
+IsTxnShown setup txn b = IsShownOf setup (sides_of txn) b
+
+-- ---- all of them
 
 -- what is shown of transactions under a setup, in their order
 abbrev pub AreShown : Setup → List TxnPieces → List ReportBlock → Type 0
@@ -37,11 +77,11 @@ pub record AreBlocksOn (lines : ConfigLines) (txns : List TxnPieces) (blocks : L
 
 -- the text is the report on the recording in these bytes under these lines
 pub record IsReportOn (lines : ConfigLines) (bytes text : List ℕ) : Type 0 where
-  pub txns : List TxnPieces
-  pub recording : IsRecording bytes txns
+  pub contents : Contents
+  pub recording : IsRecording bytes contents
   pub blocks : List ReportBlock
-  pub are : AreBlocksOn lines txns blocks
-  pub text_is : text ≡ report_text blocks
+  pub are : AreBlocksOn lines contents.txns blocks
+  pub text_is : text ≡ report_text contents.version blocks
 
 -- transactions under lines have at most one list of blocks
 abbrev pub HaveOneList : Type 0
@@ -57,4 +97,4 @@ HasOneReport =
 
 -- the bytes are a recording
 abbrev pub HasRecording : List ℕ → Type 0
-HasRecording bytes = (txns : List TxnPieces) × IsRecording bytes txns
+HasRecording bytes = (contents : Contents) × IsRecording bytes contents

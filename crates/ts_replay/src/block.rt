@@ -1,10 +1,11 @@
 //! What a recorded transaction came to that has ended: its block, as the report shows it.
 
-ghost use Rattle.std.specs.Prelude.{◌≡◌, ◌≢◌, ◌++◌, ℕ, List, [], Some, IfOk};
+ghost use Rattle.std.specs.Prelude.{◌≡◌, ◌≢◌, ◌++◌, ℕ, List, [], IfOk};
 ghost use Rattle.ts_config.specs.declared.setup.Setup.{Setup as SetupOf};
 ghost use Rattle.ts_record.specs.Report.{IsReported};
-ghost use Rattle.ts_replay.specs.Exchanged.{EndsBlank, HasTaken, IsLeftBetween, IsRunBetween, LeavesBlock};
-ghost use Rattle.ts_replay.specs.Reports.{IsShownOf, in_report};
+ghost use Rattle.ts_replay.specs.Exchanged.{EndsBlank, HasTaken, IsLeftBetween, IsRunBetween};
+ghost use Rattle.ts_replay.specs.Exchanged.{LeavesBlock, LeavesHeads, ShowsEnd};
+ghost use Rattle.ts_replay.specs.Reports.{BothSides, IsShownOf, in_report, left_report};
 ghost use Rattle.ts_replay.specs.Unframing.{IsFramed};
 ghost use Rattle.ts_txn.specs.Making.{end_of_course};
 ghost use Rattle.ts_block.specs.declared.block.Block.{Block};
@@ -43,7 +44,7 @@ fn first_head(bytes: &[u8]) -> &[u8]
 // The head that the origin was sent. A recorded side moves no upload, but no clause of a transaction says so:
 // the request is cut at its empty line.
 fn request_of(alloc: Global, origin: &RecordedLink) -> Result<Octets, NoMemory>
-    ensures { (b : Block) → HasTaken origin.now b → IfOk result (λ request. request ≡ b.request) }
+    ensures { (request : List ℕ) → HasTaken origin.now request → IfOk result (λ head. head ≡ request) }
 {
     Octets::copy_of(alloc, first_head(origin.written()))
 }
@@ -90,12 +91,37 @@ fn block_of(
     })
 }
 
+// What a transaction came to whose client left, whatever its end: where in the answer the client stopped is
+// shown within the head alone, so that it does not matter how the body was cut.
+fn block_before(
+    alloc: Global,
+    parts: &RecordedParts,
+    origin: &RecordedLink,
+) -> Result<ReportBlock, NoMemory>
+    requires heads { (most : ℕ) × (request : List ℕ) × (head : List ℕ)
+        × LeavesHeads parts.now origin.now most request head }
+    ensures { (most : ℕ) (request head : List ℕ) → LeavesHeads parts.now origin.now most request head
+        → IfOk result (λ s. s ≡ left_report most request head) }
+{
+    let request = request_of(alloc, origin)?;
+    let written = parts.client.written();
+    let shown = (parts.head as usize).min(written.len());
+    let head = Octets::copy_of(alloc, written.split_at(shown).0)?;
+    Ok(ReportBlock {
+        request,
+        end: TxnEnd::ClientFault,
+        head,
+        content: Octets::of_vec(Vec::new(alloc)),
+    })
+}
+
 // What a transaction came to that left these parts.
 fn block_left(alloc: Global, parts: &RecordedParts) -> Result<ReportBlock, NoMemory>
-    requires left { (setup : SetupOf) × (c : List ℕ) × (o : List ℕ) × IsLeftBetween setup c o parts.now }
-    ensures shown { (setup : SetupOf) (c o : List ℕ) → IsLeftBetween setup c o parts.now
-        → IfOk result (IsShownOf setup c o) }
-    ensures ended { IfOk result (λ b. parts.now.end ≡ Some b.end) }
+    requires left { (setup : SetupOf) × (sides : BothSides) × IsLeftBetween setup sides parts.now }
+    ensures shown { (setup : SetupOf) (sides : BothSides) → IsLeftBetween setup sides parts.now
+        → IfOk result (IsShownOf setup sides) }
+    ensures ended { (setup : SetupOf) (sides : BothSides) → IsLeftBetween setup sides parts.now
+        → IfOk result (λ b. ShowsEnd sides.leave parts.now.end b.end) }
     ensures reported { IfOk result (λ b. IsReported b.end) }
 {
     let Some(origin) = &parts.origin else {
@@ -106,17 +132,23 @@ fn block_left(alloc: Global, parts: &RecordedParts) -> Result<ReportBlock, NoMem
     let Some(end) = parts.end else { unreachable!() };
     match end {
         TxnEnd::NoMemory => Err(NoMemory),
-        _ => block_of(alloc, parts, origin, end),
+        _ => {
+            if parts.client.leaves() {
+                return block_before(alloc, parts, origin);
+            }
+            block_of(alloc, parts, origin, end)
+        }
     }
 }
 
 /// What a transaction came to that was started, and of whose group nothing is pending. Where memory lacked
 /// for the transaction, it is lacking here.
 pub fn block_after(alloc: Global, txn: Recorded) -> Result<ReportBlock, NoMemory>
-    requires run { (setup : SetupOf) × (c : List ℕ) × (o : List ℕ) × IsRunBetween setup c o txn }
-    ensures shown { (setup : SetupOf) (c o : List ℕ) → IsRunBetween setup c o txn
-        → IfOk result (IsShownOf setup c o) }
-    ensures ended { IfOk result (λ b. end_of_course txn.course ≡ Some b.end) }
+    requires run { (setup : SetupOf) × (sides : BothSides) × IsRunBetween setup sides txn }
+    ensures shown { (setup : SetupOf) (sides : BothSides) → IsRunBetween setup sides txn
+        → IfOk result (IsShownOf setup sides) }
+    ensures ended { (setup : SetupOf) (sides : BothSides) → IsRunBetween setup sides txn
+        → IfOk result (λ b. ShowsEnd sides.leave (end_of_course txn.course) b.end) }
     ensures reported { IfOk result (λ b. IsReported b.end) }
 {
     let parts = txn.into_parts();

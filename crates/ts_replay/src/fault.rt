@@ -12,7 +12,8 @@ use ts_link::NoMemory;
 pub enum ReplayFault {
     #[error("NoMemory")]
     NoMemory,
-    /// The group of one of them had had 2^50 turns, and was to have another. No clause says so.
+    /// A group, of a transaction or of a plugin, had had `MOST_ALONE` turns (2^50), and was to have another.
+    /// No clause says so.
     #[error("Worn")]
     Worn,
 }

@@ -4,7 +4,7 @@ ghost use Rattle.std.specs.Prelude.{◌≤◌, ℕ, IfOk, length};
 ghost use Rattle.std.specs.Arc.{arc_value};
 ghost use Rattle.ts_config.specs.declared.setup.Setup.{Setup as SetupOf};
 ghost use Rattle.ts_replay.specs.Members.{HookPlugin, Transaction};
-ghost use Rattle.ts_replay.specs.Recorded.{FitsIn, HasPlainLines, IsNewTagOf};
+ghost use Rattle.ts_replay.specs.Recorded.{AllTakeSome, FitsIn, HasPlainLines, IsNewTagOf, TakesSome};
 ghost use Rattle.ts_replay.specs.Rows.{IsRowOf, IsTxnRowOf, StandBehind};
 ghost use Rattle.ts_thread.specs.Threads.{HasHadTurns};
 
@@ -48,14 +48,18 @@ fn make_txn(
 ) -> Result<(Group<RowWorld>, RowTag), NoMemory>
     requires lines { HasPlainLines (arc_value setup) }
     requires at { plugins_at ≤ MOST_TXNS }
+    requires leave { TakesSome txn.leave }
     ensures tag { IfOk result (λ r. IsNewTagOf (arc_value setup) plugins_at (Transaction number txn) r.1) }
     ensures fits { IfOk result (λ r. FitsIn r.1 r.0) }
     ensures new { IfOk result (λ r. HasHadTurns 0 r.0) }
 {
-    let RecordedTxn { client, origin } = txn;
-    let client = RecordedLink::make(alloc, client)?;
-    let origin = RecordedLink::make(alloc, origin)?;
-    let origin = Some(origin);
+    let RecordedTxn {
+        client,
+        origin,
+        leave,
+    } = txn;
+    let client = RecordedLink::make(alloc, client, leave);
+    let origin = Some(RecordedLink::make(alloc, origin, None));
     let tag = TxnTag {
         number,
         setup: Snapshot::of(&*setup),
@@ -98,6 +102,7 @@ fn make_txns(
 ) -> Result<GroupRow, NoMemory>
     requires lines { HasPlainLines (arc_value setup.now) }
     requires count { length txns.items ≤ MOST_TXNS }
+    requires leaves { AllTakeSome txns.items }
     ensures { IfOk result (IsTxnRowOf (arc_value setup.now) txns.items) }
 {
     let starts = txns.len() as u32;
@@ -149,6 +154,7 @@ pub fn make_row(
 ) -> Result<GroupRow, NoMemory>
     requires lines { HasPlainLines (arc_value setup.now) }
     requires count { length txns.items ≤ MOST_TXNS }
+    requires leaves { AllTakeSome txns.items }
     ensures { IfOk result (IsRowOf (arc_value setup.now) txns.items) }
 {
     let row = make_txns(alloc, setup, txns)?;

@@ -5,6 +5,8 @@ ghost use Rattle.std.specs.Prelude.{◌<◌, ◌≤◌, IfOk, length};
 ghost use Rattle.ts_block.specs.Sent.{HasPlainRules};
 ghost use Rattle.ts_config.specs.Reading.{AreFew};
 ghost use Rattle.ts_config.specs.Setup.{lines_of};
+ghost use Rattle.ts_replay.specs.Heads.{AreHeadsOfBlock};
+ghost use Rattle.ts_replay.specs.Recorded.{AllTakeSome};
 ghost use Rattle.ts_replay.specs.Replayed.{IsReplayed};
 ghost use Rattle.ts_replay.specs.Reports.{HasOneReport, HaveOneList};
 
@@ -21,7 +23,8 @@ use ts_record::{MOST_TXNS, RecordedTxn};
 use ts_thread::MOST_THREADS;
 
 /// Runs recorded transactions under a setup, each in a mutex group of its own, with the plugins that they ask
-/// in groups behind them, on so many event threads that pass the gate, and drives them to their end.
+/// in groups behind them, on so many event threads that pass the gate, and drives them to their end. A client
+/// that leaves takes at least one byte before.
 pub fn replay<G: Gate + Sync, R: Threads + Wait + Sync>(
     rt: &R,
     alloc: Global,
@@ -33,6 +36,7 @@ pub fn replay<G: Gate + Sync, R: Threads + Wait + Sync>(
     requires few { AreFew (lines_of setup) }
     requires plain { HasPlainRules setup }
     requires txns { length txns.items ≤ MOST_TXNS }
+    requires leaves { AllTakeSome txns.items }
     requires threads { (0 < threads) × (threads ≤ MOST_THREADS) }
     ensures { IfOk result (IsReplayed (lines_of setup) txns.items) }
 {
@@ -44,8 +48,10 @@ pub fn replay<G: Gate + Sync, R: Threads + Wait + Sync>(
 }
 
 /// The law that transactions under lines have at most one list of blocks, so that whatever text is made of
-/// it is one, and lines and the bytes of a recording have at most one report. The function does nothing.
+/// it is one, and lines and the bytes of a recording have at most one report. What it shows of a transaction
+/// whose client leaves is of its block. The function does nothing.
 pub fn one_report()
     ensures blocks { HaveOneList }
     ensures report { HasOneReport }
+    ensures heads { AreHeadsOfBlock }
 {}

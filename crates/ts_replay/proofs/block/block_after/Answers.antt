@@ -1,5 +1,6 @@
 -- A transaction is told by the parts that are left of it.
-use Rattle.ts_replay.proofs.Telling.{left_between}
+use Rattle.ts_replay.proofs.Telling.{ends_as, left_between}
+use Rattle.ts_txn.specs.Making.{end_of_course}
 use Rattle.ts_replay.proofs.block.block_after.Goals as goal
 
 pub block_left-requires : goal.block_left-requires
@@ -10,14 +11,21 @@ block_left-requires c =
       left = (
         run.0,
         run.1,
-        run.2,
-        left_between run.0 run.1 run.2 c.args.txn parts.result run.3
+        left_between run.0 run.1 c.args.txn parts.result run.2
             parts.ensures.links parts.ensures.sent parts.ensures.end.1,
       );
     }
 
 pub returns-clause-shown : goal.returns-clause-shown
-returns-clause-shown c = λ setup c' o run.
+returns-clause-shown c = λ setup sides run.
     let parts = c.into_parts-parts in
-    c.block_left.ensures.shown setup c' o (left_between setup c' o c.args.txn parts.result run
+    c.block_left.ensures.shown setup sides (left_between setup sides c.args.txn parts.result run
     parts.ensures.links parts.ensures.sent parts.ensures.end.1)
+
+pub returns-clause-ended : goal.returns-clause-ended
+returns-clause-ended c = λ setup sides run.
+    let parts = c.into_parts-parts in
+    ends_as (c.block_left.result) sides.leave parts.result.end (end_of_course c.args.txn.course)
+    parts.ensures.end.1
+    (c.block_left.ensures.ended setup sides (left_between setup sides c.args.txn parts.result run
+    parts.ensures.links parts.ensures.sent parts.ensures.end.1))

@@ -21,7 +21,7 @@ returns c = λ b h.
     let parts = c.args.parts.now in
     let behind = c.split_at.ensures.back ∙ ap (drop parts.head) c.written.ensures in
     block_same c.in_ok-request.request c.args.end c.in_ok-head.head c.in_ok-content.content b
-    (c.in_ok-request.ensures b h.taken) (sym h.end_is)
+    (c.in_ok-request.ensures b.request h.taken) (sym h.end_is)
     (c.in_ok-head.ensures ∙ c.split_at.ensures.front ∙ ap (take parts.head) c.written.ensures ∙ head_front
     parts c.args.origin.now c.args.end b h)
     (content_is parts c.args.origin.now c.args.end b c.split_at.result.1.now c.in_ok-content.content behind h

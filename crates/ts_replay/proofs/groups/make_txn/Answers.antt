@@ -1,5 +1,5 @@
 -- A group that was just made of two recorded sides fits its tag.
-use Rattle.std.proofs.Common.{◌≡◌, Some, false, true, ap, subst, ◌∙◌, rules}
+use Rattle.std.proofs.Common.{◌≡◌, Some, None, false, true, ap, subst, ◌∙◌, rules}
 use Rattle.std.specs.Arc.{arc_value}
 use Rattle.ts_link.specs.MemLink.{look_of}
 use Rattle.ts_record.specs.Grammar.{TxnPieces}
@@ -9,8 +9,8 @@ use Rattle.ts_replay.specs.Recorded.{IsTagOf, RecordedTag}
 use Rattle.ts_replay.proofs.Rows.{fits_group, taken_setup}
 use Rattle.ts_replay.proofs.groups.make_txn.Goals as goal
 
-pub make-requires-3-clause-setup : goal.make-requires-3-clause-setup
-make-requires-3-clause-setup c =
+pub make-requires-2-clause-setup : goal.make-requires-2-clause-setup
+make-requires-2-clause-setup c =
     taken_setup (arc_value c.args.setup) c.args.plugins_at c.requires.lines c.requires.at
 
 pub returns-clause-fits : goal.returns-clause-fits
@@ -30,14 +30,16 @@ returns-clause-fits c =
     } in
     let is : IsTagOf (arc_value c.args.setup) c.args.plugins_at c.args.number c.args.txn false tag =
     search rules in
-    let of_client = ap (λ (s : TxnPieces). s.0) c.txn.view_is in
-    let of_origin = ap (λ (s : TxnPieces). s.1) c.txn.view_is in
-    let client : c.txn.inside.client.items ≡ c.args.txn.0 = cc in
-    let origin : c.txn.inside.origin.items ≡ c.args.txn.1 = cc in
+    let same = c.txn.view_is in
+    let client : c.txn.inside.client.items ≡ c.args.txn.client = ap (λ (s : TxnPieces). s.client) same in
+    let origin : c.txn.inside.origin.items ≡ c.args.txn.origin = ap (λ (s : TxnPieces). s.origin) same in
+    let leave : c.txn.inside.leave ≡ c.args.txn.leave = ap (λ (s : TxnPieces). s.leave) same in
     fits_group (arc_value c.args.setup) c.args.plugins_at c.args.number c.args.txn tag t is made.named.0
     (ap arc_value made.named.1) made.named.2
-    (subst (λ l. IsMadeOf look_of l t.core.client) (c.in_ok-client.ensures.made ∙ ap recorded_side client)
+    (subst (λ l. IsMadeOf look_of l t.core.client)
+    (c.make-client.ensures.made ∙ ap (λ pieces. recorded_side pieces c.txn.inside.leave) client
+    ∙ ap (recorded_side c.args.txn.client) leave)
     made.links.0)
     (subst (λ l. IsMadeOfIf look_of (Some l) t.core.origin)
-    (c.in_ok-origin.ensures.made ∙ ap recorded_side origin) made.links.1)
+    (c.make.ensures.made ∙ ap (λ pieces. recorded_side pieces None) origin) made.links.1)
     c.in_ok-group.group made.sound c.in_ok-group.ensures.world c.in_ok-group.ensures.fresh

@@ -3,8 +3,14 @@ use Rattle.std.proofs.Common.{◌+◌, length, refl, subst, ◌∙◌}
 use Rattle.std.specs.Arc.{arc_value}
 use Rattle.ts_replay.specs.Members.{Transaction}
 use Rattle.ts_replay.specs.Recorded.{IsNewTagOf}
-use Rattle.ts_replay.proofs.Rows.{row_more}
+use Rattle.ts_replay.proofs.Rows.{next_takes, row_more}
 use Rattle.ts_replay.proofs.groups.make_txns.Goals as goal
+
+pub make_txn-requires-clause-leave : goal.make_txn-requires-clause-leave
+make_txn-requires-clause-leave c =
+    next_takes (arc_value c.args.setup.now) (length c.args.txns.items) c.args.txns.items c.txns.rest.items
+    c.pop_front.new.self.items c.in-Some.txn c.txns.number c.txns.tags.items c.txns.groups.items
+    c.txns.invariant c.in-Some.ensures.items
 
 pub txns-preserved : goal.txns-preserved
 txns-preserved c =

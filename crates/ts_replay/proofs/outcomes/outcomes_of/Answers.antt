@@ -1,9 +1,10 @@
 -- The blocks grow by that of one group, if its world is a transaction, and the journals by that group's.
 use Rattle.std.proofs.Common.{◌≡◌, [], ◌∷◌, ◌++◌, length, refl, sym, ap, subst, ◌∙◌}
 use Rattle.std.proofs.lemmas.List.{nil_from_length}
+use Rattle.ts_journal.proofs.Final.{is_kept}
 use Rattle.ts_replay.specs.Exchanged.{AddsBlock, HasRun}
 use Rattle.ts_replay.specs.Members.{members}
-use Rattle.ts_replay.proofs.Coming.{ComeBut, all_come, come_more, has_run, is_kept, next_of, none_come}
+use Rattle.ts_replay.proofs.Coming.{ComeBut, all_come, come_more, has_run, next_of, none_come}
 use Rattle.ts_replay.proofs.outcomes.outcomes_of.Goals as goal
 
 pub groups-init : goal.groups-init

@@ -1,0 +1,116 @@
+-- The heads that a transaction sends are those of its block, and all bytes of both sides have at most one
+-- pair of them.
+use Rattle.std.proofs.Common.{◌≡◌, ◌∙◌, ℕ, List, Result, true, false, Ok, inl, inr, sym, ap, subst}
+use Rattle.ts_block.specs.Block.{AnswerSays, BodySays, DenySays, DialSays, IsBlock, IsGood, LacksAnswer}
+use Rattle.ts_block.specs.Block.{VerdictSays, asked, bad, bad_status, cut, ended, faulty, lacking, no_final}
+use Rattle.ts_block.specs.Block.{no_head, relayed_head, request_text, silent}
+use Rattle.ts_block.specs.Block as block
+use Rattle.ts_block.specs.Heads.{FinalHead, is_refused_status}
+use Rattle.ts_block.specs.Relayed.{framing_of}
+use Rattle.ts_block.specs.declared.block.Block.{Block}
+use Rattle.ts_block.proofs.OneBlock.{one_block}
+use Rattle.ts_block.proofs.OneHead.{one_final, one_request, true_not_false}
+use Rattle.ts_config.specs.declared.setup.Setup.{Setup}
+use Rattle.ts_phases.specs.Facts.{Goes}
+use Rattle.ts_phases.specs.declared.phase.Request.{Request}
+use Rattle.ts_replay.specs.Heads.{AreHeadsOfBlock, SendsHeads, decided, passed_on}
+use Rattle.ts_wire.specs.Check.{check}
+use Rattle.ts_wire.specs.declared.framing.Framing.TheVariants as F
+use Rattle.ts_wire.specs.declared.heads.RequestHead.{RequestHead}
+use Rattle.ts_wire.specs.declared.heads.ResponseHead.{ResponseHead}
+
+-- ---- the heads of a block whose answer is passed on
+
+-- a response that can be passed on is an answer
+lacks_good : (q : RequestHead) (o : List ℕ) (h : ResponseHead) (rest : List ℕ) → LacksAnswer q o
+    → FinalHead o h rest → IsGood q h → ⊥
+lacks_good q o h rest (no_final lacks) final good = lacks h rest final
+lacks_good q o h rest (bad_status k s other is) final good =
+    let same = one_final o k h s rest other final in
+    true_not_false (is_refused_status h.status) (subst (λ (x : ResponseHead). is_refused_status
+    x.status ≡ true) same.0 is) good.status
+lacks_good q o h rest (faulty k s other is) final good =
+    let same = one_final o k h s rest other final in
+    good.framing (subst (λ (x : ResponseHead). framing_of q x ≡ F.Faulty) same.0 is)
+
+module _ (setup : Setup) (c o : List ℕ) (b : Block) where
+  body_heads : (request : List ℕ) (q : RequestHead) (h : ResponseHead) (rest : List ℕ)
+      → BodySays setup request q h rest b → (request ≡ b.request) × (relayed_head setup q h ≡ b.head)
+  body_heads request q h rest (ended body over is) =
+      (sym (ap (λ (x : Block). x.request) is), sym (ap (λ (x : Block). x.head) is))
+  body_heads request q h rest (cut body short is) =
+      (sym (ap (λ (x : Block). x.request) is), sym (ap (λ (x : Block). x.head) is))
+  body_heads request q h rest (bad body broken is) =
+      (sym (ap (λ (x : Block). x.request) is), sym (ap (λ (x : Block). x.head) is))
+
+  module _ (q : Request) (h : ResponseHead) (rest : List ℕ) (goes : Goes setup c q true)
+      (final : FinalHead o h rest) (good : IsGood q.head h) where
+    -- the request of the block, and its head
+    abbrev HasHeads : List ℕ → Type 0
+    HasHeads request = (request ≡ b.request) × (relayed_head setup q.head h ≡ b.head)
+
+    answer_heads : (request : List ℕ) → AnswerSays setup request q.head o b → HasHeads request
+    answer_heads request (lacking lacks is) = absurd (lacks_good q.head o h rest lacks final good)
+    answer_heads request (block.passed_on k s other fine says) =
+        let same = one_final o k h s rest other final in
+        subst (λ (x : ResponseHead). (request ≡ b.request) × (relayed_head setup q.head x ≡ b.head)) same.0
+        (body_heads request q.head k s says)
+
+    dial_heads : (request : List ℕ) → DialSays setup true (false ≡ true) o true request q.head b
+        → HasHeads request
+    dial_heads request (inl (refused, is)) = absurd (cc)
+    dial_heads request (inr (takes, says)) = answer_heads request says
+
+    block_heads : IsBlock setup true (false ≡ true) o c b
+        → HasHeads (request_text setup q.head q.target q.host)
+    block_heads (silent none is) = absurd (goes.knows.some none)
+    block_heads (no_head some lacks is) =
+        absurd (lacks goes.knows.reads.parsed goes.knows.rest goes.knows.reads.begins)
+    block_heads (asked some p s had says) =
+        let same = one_request c p q.head s goes.knows.rest had goes.knows.reads in
+        let request = request_text setup q.head q.target q.host in
+        dial_heads request
+        (subst (λ d. DenySays setup true (false ≡ true) o d request q.head b) goes.allowed
+        (subst (λ r. VerdictSays setup true (false ≡ true) o r q.head b) goes.knows.passes
+        (subst (λ (t : RequestHead). VerdictSays setup true (false ≡ true) o (check t) t b) same.0 says)))
+
+pub heads_of_block : AreHeadsOfBlock
+heads_of_block setup c o request head b (decided a says is be) has =
+    let same = one_block setup true (false ≡ true) o c a b says has in
+    (is ∙ ap (λ (x : Block). x.request) same, be ∙ ap (λ (x : Block). x.head) same)
+heads_of_block setup c o request head b (passed_on q h rest goes final good is be) has =
+    let heads = block_heads setup c o b q h rest goes final good has in
+    (is ∙ heads.0, be ∙ heads.1)
+
+-- ---- there is one pair
+
+-- a request that goes to the origin is one
+ok_same : (x y : List ℕ × List ℕ) → ◌≡◌ {A = Result (List ℕ × List ℕ) ℕ} (Ok x) (Ok y) → x ≡ y
+ok_same x y is = cc
+
+module _ (setup : Setup) (c o : List ℕ) where
+  one_going : (q p : Request) → Goes setup c q true → Goes setup c p true → q ≡ p
+  one_going q p goes also =
+      let same = one_request c q.head p.head goes.knows.rest also.knows.rest goes.knows.reads
+      also.knows.reads in
+      let both = ok_same (q.target, q.host) (p.target, p.host)
+      (sym goes.knows.passes ∙ ap check same.0 ∙ also.knows.passes) in
+      let target : q.target ≡ p.target = ap (λ (e : List ℕ × List ℕ). e.0) both in
+      let host : q.host ≡ p.host = ap (λ (e : List ℕ × List ℕ). e.1) both in
+      λ i. record { head = same.0 i; target = target i; host = host i }
+
+  pub one_heads : (a b x y : List ℕ) → SendsHeads setup c o a x → SendsHeads setup c o b y
+      → (a ≡ b) × (x ≡ y)
+  one_heads a b x y (decided block says is be) other =
+      let heads = heads_of_block setup c o b y block other says in
+      (is ∙ sym heads.0, be ∙ sym heads.1)
+  one_heads a b x y (passed_on q h rest goes final good is be) (decided block says same alike) =
+      let heads = heads_of_block setup c o a x block (passed_on q h rest goes final good is be) says in
+      (heads.0 ∙ sym same, heads.1 ∙ sym alike)
+  one_heads a b x y (passed_on q h rest goes final good is be) (passed_on p k s going end fine same alike) =
+      let request = one_going q p goes going in
+      let response = one_final o h k rest s final end in (
+        is ∙ ap (λ (r : Request). request_text setup r.head r.target r.host) request ∙ sym same,
+        be ∙ ap (λ (r : Request). relayed_head setup r.head h) request
+            ∙ ap (λ (r : ResponseHead). relayed_head setup p.head r) (response.0) ∙ sym alike,
+      )
