@@ -1,8 +1,8 @@
 -- What an accept answers, and what it leaves of who listens (Linux, accept(2)).
-use Rattle.std.specs.Prelude.{◌≡◌, ℕ, suc, ◌+◌, ◌<◌, if◌then◌else◌, Result, Ok, Err}
+use Rattle.std.specs.Prelude.{⊤, ◌≡◌, ℕ, suc, ◌+◌, ◌<◌, if◌then◌else◌, Result, Ok, Err}
 use Rattle.std.specs.IoError.{raw_os_error}
 use Rattle.std.specs.declared.io.Error.{Error}
-use Rattle.ts_link.specs.Counts.{greatest, one_more}
+use Rattle.ts_link.specs.Counts.{greatest}
 use Rattle.ts_net.specs.Heard.{is_final}
 use Rattle.ts_net.specs.Links.{fresh_link}
 use Rattle.ts_net.specs.declared.listener.Arrival.{Arrival}
@@ -11,13 +11,18 @@ use Rattle.ts_net.specs.declared.listener.Listener.{Listener}
 
 -- a listener that has accepted nobody
 abbrev pub fresh_listener : {A : Type 0} → A → Listener A
-fresh_listener acceptor = record { acceptor = acceptor; given = 0; waits = 0; ends = 0; faults = 0 }
+fresh_listener acceptor = record { acceptor = acceptor; given = 0 }
 
 -- What the system's answer to an accept comes to, where the next client has this number: an error is a fault
 -- where no later accept can succeed, and else another client may come.
 abbrev pub arrival_of : {S : Type 0} → ℕ → Result S Error → Arrival S
 arrival_of number (Ok stream) = V.Client (fresh_link stream number)
 arrival_of number (Err e) = if is_final (raw_os_error e) then V.Failed else V.Again
+
+-- a client has as name the number of clients that were given with it
+abbrev pub IsNamed : {S : Type 0} → Arrival S → ℕ → Type 0
+IsNamed (V.Client link) given = link.name ≡ given
+IsNamed _ given = ⊤
 
 -- the system was asked once, and the answer is what its own comes to
 abbrev pub HearsArrival : {A S : Type 0} → (A → A → Result S Error → Type 0) → Listener A → A → Arrival S
@@ -35,6 +40,4 @@ pub record IsArrival {A S : Type 0} (accepts : A → A → Result S Error → Ty
 -- the listener after an answer, which left what it accepts from so
 abbrev pub after_arrival : {A S : Type 0} → Arrival S → A → Listener A → Listener A
 after_arrival (V.Client link) acceptor l = record l { acceptor = acceptor; given = l.given + 1 }
-after_arrival V.Again acceptor l = record l { acceptor = acceptor; waits = one_more l.waits }
-after_arrival V.Closed acceptor l = record l { acceptor = acceptor; ends = one_more l.ends }
-after_arrival V.Failed acceptor l = record l { acceptor = acceptor; faults = one_more l.faults }
+after_arrival _ acceptor l = record l { acceptor = acceptor }

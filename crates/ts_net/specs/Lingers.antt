@@ -8,7 +8,7 @@ use Rattle.std.specs.declared.io.Error.{Error}
 use Rattle.ts_link.specs.declared.link.Got.{Got}
 use Rattle.ts_link.specs.declared.link.Got.TheVariants as G
 use Rattle.ts_net.specs.Heard.{got_of}
-use Rattle.ts_net.specs.Moments.{moment_after}
+use Rattle.ts_link.specs.Moments.{moment_after}
 use Rattle.ts_net.specs.declared.half_closed.HalfClosed.{HalfClosed}
 use Rattle.ts_net.specs.declared.half_closed.TheConstants.{LINGER}
 use Rattle.ts_net.specs.declared.lingering.TheConstants.{MOST_LINGERING}

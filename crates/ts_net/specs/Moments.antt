@@ -1,10 +1,6 @@
--- Moments, in milliseconds.
-use Rattle.std.specs.Prelude.{ℕ, ◌+◌, ◌/◌, min}
+-- Nanoseconds as milliseconds.
+use Rattle.std.specs.Prelude.{ℕ, ◌/◌, min}
 use Rattle.ts_link.specs.Counts.{greatest}
-
--- the moment so many milliseconds later: it stays at the greatest `u64`
-abbrev pub moment_after : ℕ → ℕ → ℕ
-moment_after moment period = min (moment + period) greatest
 
 -- the whole milliseconds of so many nanoseconds: they stay at the greatest `u64`
 abbrev pub milliseconds : ℕ → ℕ

@@ -1,7 +1,7 @@
 //! Who dials: a connection to the origin is begun, and nobody waits for it.
 ghost use Rattle.std.specs.Prelude.{◌≡◌, Result, ⊤};
 ghost use Rattle.std.specs.declared.io.Error.{Error};
-ghost use Rattle.ts_net.specs.Dials.{HearsDial, after_dial, fresh_dialer};
+ghost use Rattle.ts_net.specs.Dials.{HearsDial};
 
 use crate::stream::Stream;
 use crate::stream_link::StreamLink;
@@ -11,7 +11,7 @@ use std::net::{Net, SocketAddr};
 
 /// What begins connections to one origin.
 pub trait Connector {
-    type Stream: Stream + Drop;
+    type Stream: Stream + Drop + Send;
 
     // The second is what a connect left of the first, with this answer.
     ghost connects: { Self → Self → Result Self.Stream Error → Type 0 };
@@ -64,44 +64,12 @@ pub enum Dialing<S> {
 /// The name of each link to an origin.
 pub const ORIGIN_NAME: u64 = 0;
 
-/// Dials one origin, and counts the dials that failed.
-#[derive(Drop)]
-pub struct Dialer<K> {
-    connector: K,
-    misdials: u64,
-}
-
-impl<K> Dialer<K> {
-    /// A dialer that has dialed nobody.
-    pub fn new(connector: K) -> Dialer<K>
-        ensures { result ≡ fresh_dialer connector }
-    {
-        Dialer {
-            connector,
-            misdials: 0,
-        }
-    }
-
-    /// How many answers were `Failed`. The count stays at the greatest `u64`.
-    pub fn misdials(&self) -> u64
-        ensures { result ≡ self.now.misdials }
-    {
-        self.misdials
-    }
-}
-
-impl<K: Connector> Dialer<K> {
-    /// A link to the origin, whose connection is begun. `Failed` comes where the system refuses it at once.
-    pub fn dial(&mut self) -> Dialing<K::Stream>
-        ensures heard { HearsDial K.connects self.old.connector self.new.connector result }
-        ensures after { self.new ≡ after_dial result self.new.connector self.old }
-    {
-        match self.connector.connect() {
-            Ok(stream) => Dialing::Origin(StreamLink::new(stream, ORIGIN_NAME)),
-            Err(_) => {
-                self.misdials = self.misdials.saturating_add(1);
-                Dialing::Failed
-            }
-        }
+/// A link to the origin, whose connection is begun. `Failed` comes where the system refuses it at once.
+pub fn dial<K: Connector>(connector: &mut K) -> Dialing<K::Stream>
+    ensures { HearsDial K.connects connector.old connector.new result }
+{
+    match connector.connect() {
+        Ok(stream) => Dialing::Origin(StreamLink::new(stream, ORIGIN_NAME)),
+        Err(_) => Dialing::Failed,
     }
 }

@@ -2,7 +2,7 @@
 //! alone, while what the peer still sends is read and passed over. (RFC 9112, section 9.6.)
 ghost use Rattle.std.specs.Prelude.{◌≡◌, ◌<◌, length, nat_le};
 ghost use Rattle.ts_net.specs.Lingers.{PassesOver, may_send};
-ghost use Rattle.ts_net.specs.Moments.{moment_after};
+ghost use Rattle.ts_link.specs.Moments.{moment_after};
 
 use crate::heard::got_of;
 use crate::stream::Stream;

@@ -14,7 +14,7 @@ mod stream_link;
 
 pub use address::{AddressFault, address_of};
 pub use clock::{MonotonicClock, whole_milliseconds};
-pub use dialer::{Connector, Dialer, Dialing, SystemConnector};
+pub use dialer::{Connector, Dialing, ORIGIN_NAME, SystemConnector, dial};
 pub use half_closed::{HalfClosed, LINGER};
 pub use heard::{got_of, is_final, put_of};
 pub use lingering::{LAST_LINGER, Lingering, MOST_LINGERING, PASSED_AT_ONCE};

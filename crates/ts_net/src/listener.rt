@@ -1,8 +1,7 @@
 //! Who listens: clients are accepted one after the other, each with the number of clients so far as its name.
 ghost use Rattle.std.specs.Prelude.{◌≡◌, Result, IfOk, ⊤};
 ghost use Rattle.std.specs.declared.io.Error.{Error};
-ghost use Rattle.ts_link.specs.Counts.{one_more};
-ghost use Rattle.ts_net.specs.Arrivals.{IsArrival, after_arrival, fresh_listener};
+ghost use Rattle.ts_net.specs.Arrivals.{IsArrival, IsNamed, after_arrival, fresh_listener};
 
 use crate::heard::is_final;
 use crate::stream::Stream;
@@ -13,7 +12,7 @@ use std::net::{Net, SocketAddr};
 
 /// What clients of the system connect to.
 pub trait Acceptor {
-    type Stream: Stream + Drop;
+    type Stream: Stream + Drop + Send;
 
     // The second is what an accept left of the first, with this answer.
     ghost accepts: { Self → Self → Result Self.Stream Error → Type 0 };
@@ -46,14 +45,11 @@ pub enum Arrival<S> {
     Failed,
 }
 
-/// Accepts clients, and counts them and each other answer.
+/// Accepts clients, and counts them.
 #[derive(Drop)]
 pub struct Listener<A> {
     acceptor: A,
     given: u64,
-    waits: u64,
-    ends: u64,
-    faults: u64,
 }
 
 impl<A> Listener<A> {
@@ -61,13 +57,7 @@ impl<A> Listener<A> {
     pub fn new(acceptor: A) -> Listener<A>
         ensures { result ≡ fresh_listener acceptor }
     {
-        Listener {
-            acceptor,
-            given: 0,
-            waits: 0,
-            ends: 0,
-            faults: 0,
-        }
+        Listener { acceptor, given: 0 }
     }
 
     /// How many clients it gave.
@@ -75,27 +65,6 @@ impl<A> Listener<A> {
         ensures { result ≡ self.now.given }
     {
         self.given
-    }
-
-    /// How many answers were `Again`. This count, like the two others, stays at the greatest `u64`.
-    pub fn waits(&self) -> u64
-        ensures { result ≡ self.now.waits }
-    {
-        self.waits
-    }
-
-    /// How many answers were `Closed`.
-    pub fn ends(&self) -> u64
-        ensures { result ≡ self.now.ends }
-    {
-        self.ends
-    }
-
-    /// How many answers were `Failed`.
-    pub fn faults(&self) -> u64
-        ensures { result ≡ self.now.faults }
-    {
-        self.faults
     }
 }
 
@@ -119,9 +88,9 @@ impl<A: Acceptor> Listener<A> {
     pub fn accept(&mut self) -> Arrival<A::Stream>
         ensures heard { IsArrival A.accepts self.old self.new.acceptor result }
         ensures after { self.new ≡ after_arrival result self.new.acceptor self.old }
+        ensures named { IsNamed result self.new.given }
     {
         let Some(number) = self.given.checked_add(1) else {
-            self.ends = self.ends.saturating_add(1);
             return Arrival::Closed;
         };
         match self.acceptor.next_stream() {
@@ -131,10 +100,8 @@ impl<A: Acceptor> Listener<A> {
             }
             Err(error) => {
                 if is_final(&error) {
-                    self.faults = self.faults.saturating_add(1);
                     Arrival::Failed
                 } else {
-                    self.waits = self.waits.saturating_add(1);
                     Arrival::Again
                 }
             }

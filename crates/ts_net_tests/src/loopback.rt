@@ -5,7 +5,7 @@ use mio::net::TcpListener;
 use std::net::{Ipv4Addr, Net, SocketAddr};
 use std::{io, time};
 use ts_link::{Clock, Got, Link, Put};
-use ts_net::{Arrival, Dialer, Dialing, Listener, MonotonicClock, SocketLink, SystemConnector};
+use ts_net::{Arrival, Dialing, Listener, MonotonicClock, SocketLink, SystemConnector};
 
 /// How many milliseconds a test waits for what is to come.
 pub const PATIENCE: u64 = 5_000;
@@ -17,8 +17,8 @@ pub fn listen<R: Net>(rt: &R) -> io::Result<Listener<TcpListener>> {
 
 /// A connection to who listens.
 pub fn dial<R: Net>(rt: &R, listener: &Listener<TcpListener>) -> io::Result<SocketLink> {
-    let mut dialer = Dialer::new(SystemConnector::new(rt, listener.address()?));
-    match dialer.dial() {
+    let mut connector = SystemConnector::new(rt, listener.address()?);
+    match ts_net::dial(&mut connector) {
         Dialing::Origin(link) => Ok(link),
         Dialing::Failed => Err(io::Error::other("a dial failed")),
     }
