@@ -18,7 +18,7 @@ use Rattle.ts_journal.specs.declared.slotted.Slotted.{Ghosts}
 use Rattle.ts_slot.specs.Words.{view}
 use Rattle.ts_thread.specs.declared.desk.Desk.{Desk}
 use Rattle.ts_thread.specs.Desks.{KeepsDesk}
-use Rattle.ts_serve.specs.Door.{HasCause, IsAccount, IsNotAsked, KeepsDoor, KeepsSome, KeepsDeskSome, GoesOn}
+use Rattle.ts_serve.specs.Door.{HasShutCause, IsAccount, IsNotAsked, KeepsDoor, KeepsSome, KeepsDeskSome, GoesOn}
 use Rattle.ts_serve.proofs.Books.{books_row}
 use Rattle.ts_serve.proofs.Desks.{desk_stays, desk_some, desk_on, desk_seat}
 
@@ -35,7 +35,7 @@ rose_from first old new more rose = omega (arith, rose, more)
 
 -- a cause stays one
 cause_on : (l : Listening) (first old new : NetCounts) → old.ends ≤ new.ends → old.faults ≤ new.faults
-    → HasCause l first old → HasCause l first new
+    → HasShutCause l first old → HasShutCause l first new
 cause_on listening.Open first old new ends faults cause = tt
 cause_on listening.Closed first old new ends faults cause = rose_on first.ends old.ends new.ends cause ends
 cause_on listening.Failed first old new ends faults cause =
@@ -51,7 +51,7 @@ module _ {C O : Type 0} where
     few = few;
     ends = let e = was.ends in omega arith;
     faults = let e = was.faults in omega arith;
-    cause = subst (λ (l : Listening). HasCause l first after.counts) (sym same)
+    cause = subst (λ (l : Listening). HasShutCause l first after.counts) (sym same)
         (cause_on old.listening first before.counts after.counts ends faults was.cause);
   }
 
@@ -98,7 +98,7 @@ module _ {C O : Type 0} where
           let more = grown true before.counts.ends after.counts.ends receives.ends in omega arith;
       faults = let e = was.faults in
           let more = grown false before.counts.faults after.counts.faults receives.faults in omega arith;
-      cause = subst (λ (l : Listening). HasCause l first after.counts) (sym shut)
+      cause = subst (λ (l : Listening). HasShutCause l first after.counts) (sym shut)
           (rose_from first.ends before.counts.ends after.counts.ends was.ends receives.ends);
     }
 
@@ -113,7 +113,7 @@ module _ {C O : Type 0} where
           let more = grown false before.counts.ends after.counts.ends receives.ends in omega arith;
       faults = let e = was.faults in
           let more = grown true before.counts.faults after.counts.faults receives.faults in omega arith;
-      cause = subst (λ (l : Listening). HasCause l first after.counts) (sym shut)
+      cause = subst (λ (l : Listening). HasShutCause l first after.counts) (sym shut)
           (rose_from first.faults before.counts.faults after.counts.faults was.faults receives.faults);
     }
 

@@ -159,17 +159,6 @@ module _ {C O : Type 0} (Done : Retired C O → Type 0) (misdials : ℕ) where
             elim books.dialed [ inl few ↦ inl (omega arith) | inr end ↦ inr (omega arith) ];
       }
 
-  -- whatever was booked, what was handed over is in order
-  pub books_closed : (row : List Booking) (net : NetSeen C O) → Books Done misdials row net
-      → Books Done misdials [] net
-  books_closed row net books = record {
-    each = books.each;
-    once = λ x. let was = books.once x in let none : sum_by (has_number x) [] ≡ 0 = refl in omega arith;
-    dialed =
-        let none : sum_by lacks_origin [] ≡ 0 = refl in
-        elim books.dialed [ inl few ↦ inl (omega arith) | inr end ↦ inr end ];
-  }
-
 module _ {C O : Type 0} where
   -- the same of no client being lost
 

@@ -124,3 +124,11 @@ module _ {C O Q : Type 0} (client : link.Ghosts C) (origin : link.Ghosts O) (bot
     where
       not_both : (b : Bool) → b ≡ true → b ≡ false → ⊥
       not_both b is is_not = cc
+
+-- there is one value of the terms that show this setup and this number
+pub one_terms : (a b : TxnTerms) → a.setup.value ≡ b.setup.value → a.plugins_at ≡ b.plugins_at → a ≡ b
+one_terms a b setup_is at_is =
+    let shown : a ≡ record a { setup = b.setup } =
+    ap (λ v. record a { setup = record a.setup { value = v } }) setup_is in
+    let placed : record a { setup = b.setup } ≡ b = ap (λ n. record b { plugins_at = n }) at_is in
+    shown ∙ placed

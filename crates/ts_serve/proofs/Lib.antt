@@ -3,4 +3,9 @@ pub mod Books
 pub mod Desks
 pub mod Accounts
 pub mod Living
+pub mod Helpers
 mod Ending
+mod Rooms
+mod Leftovers
+mod Serves
+mod Askers

@@ -2,9 +2,8 @@
 use Rattle.std.proofs.Common.{◌≡◌, ℕ, suc, ◌+◌, ◌<◌, List, [], ◌∷◌, Bool, false, length, refl, sym, ap, ◌∙◌, subst, arith}
 use Rattle.ts_lists.proofs.Places.{place_once}
 use Rattle.ts_journal.specs.Log.{Log}
-use Rattle.ts_journal.specs.Machine.{Balances, HasLived, IsLawful, replay}
+use Rattle.ts_journal.proofs.Final.{IsKept, is_final}
 use Rattle.ts_journal.specs.State.{State}
-use Rattle.ts_journal.specs.declared.entry.Entry.{Entry}
 use Rattle.ts_group.specs.declared.action.Named.{Named}
 use Rattle.ts_group.specs.declared.either.Either.{Either}
 use Rattle.ts_group.specs.declared.either.Either.TheVariants.{One}
@@ -16,40 +15,10 @@ use Rattle.ts_group.specs.Either.{EitherFits, EitherSound, tag_of}
 use Rattle.ts_group.specs.Slot.{IsAtRest}
 use Rattle.ts_thread.specs.Tags.{GroupFits}
 use Rattle.ts_serve.specs.Places.{PlaceFits, PlaceSound}
-use Rattle.ts_serve.specs.Guests.{FitPlacesFrom, FitsRoom, FitsTerms, HasEndedIn, IsEmptyGroup, IsFinal, IsOver, IsPlace, IsPlaceOf, MayLiveAt}
+use Rattle.ts_serve.specs.Guests.{FitPlacesFrom, FitsRoom, FitsTerms, HasEndedIn, IsEmptyGroup, HoldsEnded, IsPlace, IsPlaceOf, MayLiveAt}
 use Rattle.ts_serve.specs.declared.door.TheConstants.{PLACES}
 use Rattle.ts_serve.specs.declared.place.Place.{Place}
 use Rattle.ts_serve.specs.declared.place.Place.TheVariants.{Tenant}
-
--- the state of a journal is what its entries come to, which are lawful, and its counts add up
-pub record IsKept (log : Log) : Type 0 where
-  pub lawful : IsLawful log.base.state log.entries
-  pub state : log.state ≡ replay log.base.state log.entries
-  pub lived : HasLived log.base.made log.state
-  pub counts : Balances log.state
-
--- what is read of a journal is known of its group
-pub is_kept : (log read : Log) (es : List Entry) → read ≡ log → es ≡ read.entries
-    → IsLawful read.base.state es → read.state ≡ replay read.base.state es
-    → HasLived read.base.made read.state → Balances read.state → IsKept log
-is_kept log read es same are lawful state lived counts = subst IsKept same
-    (record {
-      lawful = subst (IsLawful read.base.state) are lawful;
-      state = state ∙ ap (replay read.base.state) are;
-      lived = lived;
-      counts = counts;
-    })
-
--- once nothing is pending in it and it is not held, it is final
-final : (log : Log) → IsKept log → log.state.held ≡ false → log.state.pending ≡ [] → IsFinal log
-final log kept given none = record {
-  lawful = kept.lawful;
-  state = kept.state;
-  lived = kept.lived;
-  given = given;
-  none = none;
-  closed = let all = kept.counts in let few = ap length none in omega (arith, all, few);
-}
 
 -- one guest lives in a place
 pub one_guest : {W P : Type 0} (v w : W) → ◌≡◌ {A = Either (Place W) P} (One (Tenant v)) (One (Tenant w))
@@ -126,7 +95,7 @@ module _ {W T A P U : Type 0} (Fits : T → W → Type 0) (Keeps : A → T → T
   -- the guest of a place that has ended has ended in it
   pub ended_in : (number_of : W → ℕ) (holds_origin is_ended : W → Bool) (number : ℕ) (has_origin : Bool)
       (terms : A) (g : Group (Either (Place W) P) Q R (EitherTag A U) X) (w : W) (journal : Log)
-      → IsOver Sound number_of holds_origin is_ended number has_origin g.world → g.world ≡ One (Tenant w)
+      → HoldsEnded Sound number_of holds_origin is_ended number has_origin g.world → g.world ≡ One (Tenant w)
       → journal ≡ g.cx.log → IsKept g.cx.log
       → FitsTerms Fits Keeps Sound Other SoundOther only_asked is_first terms g
       → HasEndedIn Fits Keeps Sound is_ended terms w journal
@@ -142,5 +111,5 @@ module _ {W T A P U : Type 0} (Fits : T → W → Type 0) (Keeps : A → T → T
         roles = g.cx.roles;
         sound = sound;
         ended = ap is_ended (sym guest) ∙ over.ended;
-        final = final g.cx.log kept fits.2.0 rests;
+        final = is_final g.cx.log kept fits.2.0 rests;
       })

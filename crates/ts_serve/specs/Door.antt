@@ -1,5 +1,5 @@
--- The door: what the first thread keeps of the clients that come, and what each of its steps leaves of that and
--- of the net.
+-- The door: what the first thread keeps of the clients that come, and what each of its steps leaves of that
+-- and of the net.
 use Rattle.std.specs.Prelude.{⊤, ◌≡◌, ℕ, ◌<◌, ◌≤◌, Bool, true, List, length}
 use Rattle.std.specs.List.{sum_by}
 use Rattle.ts_link.specs.Counts.{Rose}
@@ -38,10 +38,10 @@ pub record IsOpenRoom {S A U : Type 0} (IsSetting : S → Type 0) (AreTerms : S 
   pub room : IsRoomOf AreTerms setting tags
 
 -- why nobody more is let in, where the net gives nobody more: the count of that answer rose
-abbrev pub HasCause : Listening → NetCounts → NetCounts → Type 0
-HasCause listening.Open old new = ⊤
-HasCause listening.Closed old new = Rose old.ends new.ends
-HasCause listening.Failed old new = Rose old.faults new.faults
+abbrev pub HasShutCause : Listening → NetCounts → NetCounts → Type 0
+HasShutCause listening.Open old new = ⊤
+HasShutCause listening.Closed old new = Rose old.ends new.ends
+HasShutCause listening.Failed old new = Rose old.faults new.faults
 
 -- The door's account of a net, which had these counts at first: no more clients came than were to, and where
 -- the net gives nobody more, there is a cause.
@@ -49,7 +49,7 @@ pub record IsAccount {C O : Type 0} (first : NetCounts) (door : Door) (net : Net
   pub few : door.came ≤ door.most
   pub ends : first.ends ≤ net.counts.ends
   pub faults : first.faults ≤ net.counts.faults
-  pub cause : HasCause door.listening first net.counts
+  pub cause : HasShutCause door.listening first net.counts
 
 -- The door of a net: it has a booking for each place, and as many clients came as the net gave.
 pub record IsDoorOf {C O : Type 0} (door : Door) (net : NetSeen C O) : Type 0 where
@@ -57,8 +57,8 @@ pub record IsDoorOf {C O : Type 0} (door : Door) (net : NetSeen C O) : Type 0 wh
   pub next : door.next < PLACES
   pub came : door.came ≡ net.given
 
--- What a step of the first thread leaves of the door and of the net. Where the net tells what it was handed, the
--- books stay right, of places of any terms that are these.
+-- What a step of the first thread leaves of the door and of the net. Where the net tells what it was handed,
+-- the books stay right, of places of any terms that are these.
 pub record KeepsDoor {C O A : Type 0} (tells : Bool) (Done : A → Retired C O → Type 0) (Are : A → Type 0)
     (old new : Door) (before after : NetSeen C O) : Type 0 where
   pub most : new.most ≡ old.most

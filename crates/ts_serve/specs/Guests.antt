@@ -3,7 +3,7 @@ use Rattle.std.specs.Prelude.{◌≡◌, ℕ, ◌+◌, ◌<◌, List, [], Bool, 
 use mathlib.Core.Option.{some}
 use lib.ListN.{get_elem?}
 use Rattle.ts_journal.specs.Log.{Log}
-use Rattle.ts_journal.specs.Machine.{HasLived, IsLawful, replay}
+use Rattle.ts_journal.specs.Final.{IsFinal}
 use Rattle.ts_journal.specs.State.{State}
 use Rattle.ts_group.specs.declared.action.Named.{Named}
 use Rattle.ts_group.specs.declared.either.Either.{Either}
@@ -21,17 +21,6 @@ use Rattle.ts_serve.specs.Places.{PlaceFits, PlaceSound}
 use Rattle.ts_serve.specs.declared.door.TheConstants.{PLACES}
 use Rattle.ts_serve.specs.declared.place.Place.{Place}
 use Rattle.ts_serve.specs.declared.place.Place.TheVariants.{Empty, Tenant}
-
--- A journal that is lawful from its base on and not held, with nothing pending. Its state, and so its counts,
--- are those of its whole life: of the events that were set in it, before its base too, each was handled,
--- cancelled or dropped.
-pub record IsFinal (j : Log) : Type 0 where
-  pub lawful : IsLawful j.base.state j.entries
-  pub state : j.state ≡ replay j.base.state j.entries
-  pub lived : HasLived j.base.made j.state
-  pub given : j.state.held ≡ false
-  pub none : j.state.pending ≡ []
-  pub closed : j.state.set_count ≡ j.state.handled_count + j.state.cancelled_count + j.state.dropped_count
 
 -- the group k is a place of these terms, and so is some group
 abbrev pub IsPlaceOf : {A U : Type 0} → List (EitherTag A U) → ℕ → A → Type 0
@@ -100,7 +89,7 @@ module _ {W T A : Type 0} (Fits : T → W → Type 0) (Keeps : A → T → Type 
 
 -- In a place lives a guest of this number, with an origin or without one, which has ended, so that nothing of
 -- it is pending.
-pub record IsOver {W P : Type 0} (Sound : W → State → List Named → Type 0) (number_of : W → ℕ)
+pub record HoldsEnded {W P : Type 0} (Sound : W → State → List Named → Type 0) (number_of : W → ℕ)
     (holds_origin is_ended : W → Bool) (number : ℕ) (has_origin : Bool) (world : Either (Place W) P) :
     Type 0 where
   pub guest : W

@@ -5,5 +5,9 @@ pub mod Guests
 pub mod Arrivals
 pub mod Books
 pub mod Door
+pub mod Helping
 pub mod Rooms
+pub mod Opening
+pub mod Leftover
+pub mod Served
 pub mod Transactions

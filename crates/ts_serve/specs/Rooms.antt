@@ -1,8 +1,15 @@
 -- The room: the groups of the places, and those of worlds that stand beside them and are only asked.
-use Rattle.std.specs.Prelude.{ℕ, List, Bool, false}
+use Rattle.std.specs.Prelude.{◌≡◌, ℕ, ◌+◌, ◌≤◌, List, ◌++◌, All, Bool, false, true, length, map, replicate}
+use Rattle.ts_journal.specs.State.{State}
+use Rattle.ts_group.specs.declared.action.Named.{Named}
 use Rattle.ts_group.specs.declared.either.EitherTag.{EitherTag}
+use Rattle.ts_group.specs.declared.either.EitherTag.TheVariants as tag
+use Rattle.ts_group.specs.Context.{Context, IsFresh}
 use Rattle.ts_group.specs.Either.{EitherFits, EitherMayAsk, EitherRight, EitherAnswers, tag_of}
 use Rattle.ts_thread.specs.Tags.{CanAsk}
+use Rattle.ts_slot.specs.Limits.{most_groups}
+use Rattle.ts_serve.specs.declared.door.TheConstants.{PLACES}
+use Rattle.ts_serve.specs.declared.opening.Beside.{Beside}
 use Rattle.ts_serve.specs.Places.{PlaceFits, PlaceMayAsk, PlaceRight, PlaceAnswers}
 
 -- Of groups with these tags, each that whoever lives in a place may ask stands beside the places, and what it
@@ -14,3 +21,21 @@ CanAskInRoom Fits Keeps MayAsk Right Answers Other only_asked OtherMayAsk OtherR
     CanAsk (EitherFits (PlaceFits Fits Keeps) Other) (tag_of (λ terms. false) only_asked)
     (EitherMayAsk (PlaceMayAsk MayAsk) OtherMayAsk) (EitherRight (PlaceRight Right) OtherRight)
     (EitherAnswers (PlaceAnswers Answers) OtherAnswers) tags
+
+-- the tags of a room: those of the places, all of these terms, and behind them those of the other worlds
+abbrev pub room_tags : {A P U : Type 0} → A → List (Beside P U) → List (EitherTag A U)
+room_tags terms others = replicate PLACES (tag.One terms) ++ map (λ b. tag.Other b.tag) others
+
+-- The world fits its tag, is only asked, and is sound in a group in which nothing was done.
+pub record StandsBeside {P U : Type 0} (Other : U → P → Type 0) (SoundOther : P → State → List Named → Type 0)
+    (only_asked : U → Bool) (beside : Beside P U) : Type 0 where
+  pub fits : Other beside.tag beside.world
+  pub asked : only_asked beside.tag ≡ true
+  pub sound : (now : Context) → IsFresh 0 now → SoundOther beside.world now.log.state now.roles
+
+-- these worlds can stand beside the places: there are slots for all
+pub record CanStandBeside {P U : Type 0} (Other : U → P → Type 0)
+    (SoundOther : P → State → List Named → Type 0) (only_asked : U → Bool) (others : List (Beside P U))
+    : Type 0 where
+  pub few : PLACES + length others ≤ most_groups
+  pub each : All (StandsBeside Other SoundOther only_asked) others

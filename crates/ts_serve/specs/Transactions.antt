@@ -1,22 +1,30 @@
 -- A transaction in a place, and what is left of it once it has ended there.
 use Rattle.std.specs.Prelude.{◌≡◌, ℕ, List, Option, Some, false}
 use Rattle.std.specs.Arc.{arc_value}
+use Rattle.std.specs.List.{AllZip}
+use Rattle.ts_config.specs.declared.fields.PluginLine.{PluginLine}
 use Rattle.ts_config.specs.declared.setup.Setup.{Setup}
 use Rattle.ts_config.specs.declared.setup.TransformLine.{TransformLine}
 use Rattle.ts_group.specs.declared.action.Named.{Named}
 use Rattle.ts_hooks.specs.declared.txn_end.TxnEnd.{TxnEnd}
+use Rattle.ts_journal.specs.Final.{IsFinal}
 use Rattle.ts_link.specs.Link.{Look}
+use Rattle.ts_phases.specs.Causes.{HasCause}
+use Rattle.ts_phases.specs.View.{view_of}
 use Rattle.ts_link.specs.declared.link.Link as link
+use Rattle.ts_plugin.specs.declared.plugin.Plugin.{Plugin}
+use Rattle.ts_plugin.specs.declared.plugin.PluginTag.{PluginTag}
 use Rattle.ts_transform.specs.declared.transform.Transform as transform
 use Rattle.ts_upstream.specs.declared.upstream.Upstream as upstream
 use Rattle.ts_txn.specs.Making.{base_if, end_of_course, link_if}
 use Rattle.ts_txn.specs.Resting.{HasEndedSo}
+use Rattle.ts_txn.specs.Sending.{TxnSendsOnce, TxnSendsRequestFirst}
 use Rattle.ts_txn.specs.World.{IsSoundTxn}
 use Rattle.ts_txn.specs.declared.making.TxnParts.{TxnParts}
 use Rattle.ts_txn.specs.declared.retired.Retired.{Retired}
 use Rattle.ts_txn.specs.declared.txn.Txn.{Txn}
 use Rattle.ts_txn.specs.declared.txn.TxnTag.{TxnTag}
-use Rattle.ts_serve.specs.Guests.{IsFinal}
+use Rattle.ts_serve.specs.declared.opening.Beside.{Beside}
 use Rattle.ts_serve.specs.declared.transaction.TxnSetting.{TxnSetting}
 use Rattle.ts_serve.specs.declared.transaction.TxnTerms.{TxnTerms}
 
@@ -55,20 +63,33 @@ pub record IsLeftOf {C O Q : Type 0} (t : Txn C O Q) (parts : TxnParts C O) : Ty
   pub origin_faults : parts.origin_faults ≡ base_if t.core.origin
   pub end : parts.end ≡ end_of_course t.course
 
--- What is left of a transaction that has ended in a place of these terms: it had the setup of the place, its
--- number is the name of its client's link, it is sound, it has an end, of which holds what holds of that end,
--- and the journal of its group is at rest with nothing pending.
+-- What is left of a transaction that has ended in its place: it had this setup and its plugins from this group
+-- on, its number is the name of its client's link, it is sound, it has an end, for which there is a cause, and
+-- of which holds what holds of that end, it sent one request and behind that one response at most, and the
+-- journal of its group is at rest with nothing pending.
 pub record IsTxnDone {C O Q : Type 0} (client : link.Ghosts C) (origin : link.Ghosts O)
-    (both : upstream.Ghosts O C) (stage : transform.Ghosts Q TransformLine) (terms : TxnTerms)
+    (both : upstream.Ghosts O C) (stage : transform.Ghosts Q TransformLine) (setup : Setup) (plugins_at : ℕ)
     (r : Retired C O) : Type 0 where
   pub txn : Txn C O Q
   pub left : IsLeftOf txn r.parts
-  pub setup_is : arc_value txn.core.setup ≡ terms.setup.value
-  pub plugins_are : txn.core.plugins_at ≡ terms.plugins_at
+  pub setup_is : arc_value txn.core.setup ≡ setup
+  pub plugins_are : txn.core.plugins_at ≡ plugins_at
   pub named : (client.look r.parts.client).name ≡ r.parts.number
   pub roles : List Named
   pub sound : IsSoundTxn client origin both stage txn r.journal.state.pending r.journal.state.next roles
   pub ending : TxnEnd
   pub ended : r.parts.end ≡ Some ending
   pub so : HasEndedSo client origin both txn ending
+  pub cause : HasCause (view_of client origin txn.core) ending
+  pub once : TxnSendsOnce client origin txn
+  pub first : TxnSendsRequestFirst client origin txn
   pub final : IsFinal r.journal
+
+-- a world beside the places is the plugin of this line, with its tag
+pub record IsPluginOfLine (line : PluginLine) (beside : Beside Plugin PluginTag) : Type 0 where
+  pub world : beside.world.line ≡ line
+  pub tag_is : beside.tag.line.value ≡ line
+
+-- such worlds, one for each of these lines, in their order
+abbrev pub ArePluginsOf : List PluginLine → List (Beside Plugin PluginTag) → Type 0
+ArePluginsOf lines plugins = AllZip IsPluginOfLine lines plugins

@@ -10,6 +10,7 @@ ghost use Rattle.ts_serve.specs.Door.{HasPlacesOf, IsDoorOf, IsOpenRoom, KeepsDo
 
 use crate::booking::Booking;
 use crate::door::{Door, Listening, PLACES};
+use crate::door_net::DoorNet;
 use crate::entering::{enter, leave_found};
 use crate::guest::Guest;
 use crate::letting::let_live;
@@ -19,7 +20,6 @@ use std::alloc::Global;
 use ts_group::World;
 use ts_link::NoMemory;
 use ts_slot::{Seat, Slots};
-use ts_txn::Net;
 
 // The least place that is free.
 fn free_place(row: &[Booking]) -> Option<u32>
@@ -35,7 +35,7 @@ fn free_place(row: &[Booking]) -> Option<u32>
 }
 
 // Receives whoever is there for the place k, which is free, and keeps account of the answer.
-fn receive_at<N: Net, W: Guest<N::Client, N::Origin>>(
+fn receive_at<N: DoorNet, W: Guest<N::Client, N::Origin>>(
     net: &mut N,
     door: &mut Door,
     k: u32,
@@ -45,7 +45,8 @@ fn receive_at<N: Net, W: Guest<N::Client, N::Origin>>(
     requires free { (k < PLACES) × (get_or door.old.row.items k Booking.Free ≡ Booking.Free) }
     ensures door { IsDoorOf door.new (N.seen net.new) }
     ensures came { CameAs N.Client.Link N.Origin.Link N.Origin.Upstream.own door.new.came result }
-    ensures keeps { KeepsDoor N.tells W.is_done (λ terms. ⊤) door.old door.new (N.seen net.old) (N.seen net.new) }
+    ensures keeps { KeepsDoor N.tells W.is_done (λ terms. ⊤)
+        door.old door.new (N.seen net.old) (N.seen net.new) }
     ensures all { LosesNobody door.old door.new (N.seen net.old) (N.seen net.new) }
 {
     let number = u64::from(door.came) + 1;
@@ -69,7 +70,7 @@ fn receive_at<N: Net, W: Guest<N::Client, N::Origin>>(
 /// Lets one client in, if more may come, a place is free, no other seat holds it and one is there. Answers
 /// whether one came.
 pub fn let_in<
-    N: Net,
+    N: DoorNet,
     W: Guest<N::Client, N::Origin> + Drop,
     P: World<Question = W::Question, Reply = W::Reply> + Drop,
 >(
@@ -111,9 +112,10 @@ pub fn let_in<
     Ok(true)
 }
 
-/// Lets clients in until none comes, none more may come, or no place is free for one. Answers whether one came.
+/// Lets clients in until none comes, none more may come, or no place is free for one. Answers whether one
+/// came.
 pub fn let_all_in<
-    N: Net,
+    N: DoorNet,
     W: Guest<N::Client, N::Origin> + Drop,
     P: World<Question = W::Question, Reply = W::Reply> + Drop,
 >(

@@ -8,19 +8,19 @@ ghost use Rattle.ts_serve.specs.Guests.{FitPlaces, FitsTerms};
 
 use crate::booking::Booking;
 use crate::door::PLACES;
+use crate::door_net::DoorNet;
 use crate::guest::Guest;
 use crate::place::PlaceGroup;
 use crate::retiring::{hand_over, has_ended};
 use std::collections::VecDeque;
 use ts_group::World;
 use ts_link::NoMemory;
-use ts_txn::Net;
 
 /// Hands what is left of the client that is booked for the place k to the net, if its guest has ended, and
 /// books that the place is free. The group is that of the place. At want of memory, or where the guest has
 /// not ended, it is dropped.
 pub fn clear_place<
-    N: Net,
+    N: DoorNet,
     W: Guest<N::Client, N::Origin> + Drop,
     P: World<Question = W::Question, Reply = W::Reply> + Drop,
 >(net: &mut N, row: &mut Vec<Booking>, k: u32, group: PlaceGroup<W, P>) -> Result<(), NoMemory>
@@ -50,7 +50,7 @@ pub fn clear_place<
 /// those of a room in their order, which nobody else has; they are dropped. Where memory lacks for what is
 /// left of one, that is dropped too.
 pub fn clear_places<
-    N: Net,
+    N: DoorNet,
     W: Guest<N::Client, N::Origin> + Drop,
     P: World<Question = W::Question, Reply = W::Reply> + Drop,
 >(net: &mut N, row: &mut Vec<Booking>, groups: Vec<PlaceGroup<W, P>>)

@@ -49,6 +49,11 @@ pub trait Guest<C: Link, O: Upstream<C>>: Lodger {
     /// What holds of what is left of a guest that has ended in a place of these terms.
     ghost is_done: { Self.Terms → Retired C O → Type 0 };
 
+    /// The terms of a place of a setting. There are no others.
+    fn terms(setting: &Self::Setting) -> Self::Terms
+        ensures are { are_terms setting.now result }
+        ensures only { (other : Self.Terms) → are_terms setting.now other → other ≡ result };
+
     /// A guest for the client of a number. It was not started.
     fn make(
         alloc: Global,

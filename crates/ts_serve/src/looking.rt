@@ -6,6 +6,7 @@ ghost use Rattle.ts_serve.specs.Door.{HasPlaces, HasPlacesOf, IsDoorOf, KeepsDoo
 ghost use Rattle.ts_thread.specs.Seats.{KeepsSeat};
 
 use crate::door::{Door, PLACES};
+use crate::door_net::DoorNet;
 use crate::guest::Guest;
 use crate::place::PlaceGroup;
 use crate::retiring::take_out_at;
@@ -13,11 +14,10 @@ use std::alloc::Global;
 use ts_group::World;
 use ts_link::NoMemory;
 use ts_slot::{Seat, Slots};
-use ts_txn::Net;
 
 /// Looks at one place, and the next time at the one that follows.
 pub fn look_next<
-    N: Net,
+    N: DoorNet,
     W: Guest<N::Client, N::Origin> + Drop,
     P: World<Question = W::Question, Reply = W::Reply> + Drop,
 >(
@@ -42,7 +42,7 @@ pub fn look_next<
 
 /// Looks at all places.
 pub fn look_at_all<
-    N: Net,
+    N: DoorNet,
     W: Guest<N::Client, N::Origin> + Drop,
     P: World<Question = W::Question, Reply = W::Reply> + Drop,
 >(

@@ -6,7 +6,9 @@ ghost use Rattle.ts_journal.specs.Machine.{after};
 ghost use Rattle.ts_group.specs.Answers.{IsAnswered, Hears, KeepsPromises, SetsAtMost};
 ghost use Rattle.ts_group.specs.Context.{IsOrderly};
 ghost use Rattle.ts_group.specs.Entries.{Grows};
-ghost use Rattle.ts_serve.specs.Places.{PlaceFits, PlaceSound, PlaceAsking, PlaceRight, PlaceMayAsk, PlaceAnswers, place_left, PlaceBegun, PlaceCalled, PlaceHeard, sound_on, left_on};
+ghost use Rattle.ts_serve.specs.Places.{PlaceFits, PlaceSound, PlaceAsking, PlaceRight, PlaceMayAsk};
+ghost use Rattle.ts_serve.specs.Places.{PlaceAnswers, place_left, PlaceBegun, PlaceCalled, PlaceHeard};
+ghost use Rattle.ts_serve.specs.Places.{sound_on, left_on};
 
 use crate::guest::Lodger;
 use ts_group::{Asked, Cx, Either, Group, MOST_SET, Want, World};

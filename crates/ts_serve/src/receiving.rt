@@ -6,8 +6,9 @@ ghost use Rattle.ts_serve.specs.Arrivals.{Receives};
 ghost use Rattle.ts_serve.specs.Books.{Books, HasAll, row_after};
 
 use crate::booking::Booking;
+use crate::door_net::DoorNet;
 use crate::guest::Guest;
-use ts_txn::{Accepted, Dialed, Net};
+use ts_txn::{Accepted, Dialed};
 
 /// Who came to the door.
 #[derive(Drop)]
@@ -23,7 +24,7 @@ pub enum Arrival<C, O> {
 
 /// Accepts the client of this number, if one is there, dials its origin, and books it for the place k, which
 /// is free.
-pub fn receive<N: Net, W: Guest<N::Client, N::Origin>>(
+pub fn receive<N: DoorNet, W: Guest<N::Client, N::Origin>>(
     net: &mut N,
     row: &mut Vec<Booking>,
     k: u32,

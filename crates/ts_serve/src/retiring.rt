@@ -6,9 +6,10 @@ ghost use Rattle.ts_thread.specs.Seats.{KeepsSeat, Leaves};
 ghost use Rattle.ts_serve.specs.Books.{Books, HasAll};
 ghost use Rattle.ts_serve.specs.Door.{IsNotAsked};
 ghost use Rattle.ts_serve.specs.Entering.{Finds};
-ghost use Rattle.ts_serve.specs.Guests.{FitsTerms, HandsOver, IsOver, IsPlace, IsPlaceOf};
+ghost use Rattle.ts_serve.specs.Guests.{FitsTerms, HandsOver, HoldsEnded, IsPlace, IsPlaceOf};
 
 use crate::booking::Booking;
+use crate::door_net::DoorNet;
 use crate::entering::{enter, leave_found};
 use crate::guest::Guest;
 use crate::letting::empty_group;
@@ -18,7 +19,6 @@ use ts_group::{Either, World};
 use ts_link::{Link, NoMemory};
 use ts_slot::{Seat, Slots, Turn};
 use ts_thread::change_tenant;
-use ts_txn::Net;
 use ts_upstream::Upstream;
 
 /// Whether in a place lives the guest of this number, with an origin or without one, and has ended.
@@ -28,7 +28,7 @@ pub fn has_ended<
     W: Guest<C, O> + Drop,
     P: World<Question = W::Question, Reply = W::Reply> + Drop,
 >(group: &PlaceGroup<W, P>, number: u64, has_origin: bool) -> bool
-    ensures { result ≡ true → IsOver W.sound W.number_of W.holds_origin W.is_ended number has_origin
+    ensures { result ≡ true → HoldsEnded W.sound W.number_of W.holds_origin W.is_ended number has_origin
         group.now.world }
 {
     match group.world() {
@@ -47,7 +47,7 @@ fn finds_ended<
     P: World<Question = W::Question, Reply = W::Reply> + Drop,
 >(turn: &mut Turn<PlaceGroup<W, P>>, number: u64, has_origin: bool) -> bool
     ensures same { turn.new ≡ turn.old }
-    ensures over { result ≡ true → IsOver W.sound W.number_of W.holds_origin W.is_ended number has_origin
+    ensures over { result ≡ true → HoldsEnded W.sound W.number_of W.holds_origin W.is_ended number has_origin
         turn.old.boxed.value.world }
 {
     has_ended(turn.value(), number, has_origin)
@@ -55,11 +55,11 @@ fn finds_ended<
 
 /// Hands what is left of the guest of a place over to the net, which has ended.
 pub fn hand_over<
-    N: Net,
+    N: DoorNet,
     W: Guest<N::Client, N::Origin> + Drop,
     P: World<Question = W::Question, Reply = W::Reply> + Drop,
 >(net: &mut N, number: u64, has_origin: bool, group: PlaceGroup<W, P>) -> Result<(), NoMemory>
-    requires over { IsOver W.sound W.number_of W.holds_origin W.is_ended number has_origin group.world }
+    requires over { HoldsEnded W.sound W.number_of W.holds_origin W.is_ended number has_origin group.world }
     ensures ok { OnOk result ((terms : W.Terms)
         → FitsTerms W.fits W.keeps W.sound P.fits P.sound P.only_asked P.is_first terms group
         → HandsOver N.tells (W.is_done terms) number has_origin (N.seen net.old) (N.seen net.new)) }
@@ -99,7 +99,7 @@ pub fn take_out<
     ensures leaves { Leaves (view seat.old) (view seat.new) }
     ensures out { IfOk result (λ out. IfSome out (λ group. group ≡ turn.boxed.value)) }
     ensures over { IfOk result (λ out. IfSome out (λ group.
-        IsOver W.sound W.number_of W.holds_origin W.is_ended number has_origin group.world)) }
+        HoldsEnded W.sound W.number_of W.holds_origin W.is_ended number has_origin group.world)) }
 {
     if !finds_ended(&mut turn, number, has_origin) {
         leave_found(slots, seat, turn);
@@ -115,7 +115,7 @@ pub fn take_out<
 /// Takes the guest of this number, with an origin or without one, out of the place k, if it has ended, and
 /// hands what is left of it to the net. Answers whether it did.
 pub fn retire_at<
-    N: Net,
+    N: DoorNet,
     W: Guest<N::Client, N::Origin> + Drop,
     P: World<Question = W::Question, Reply = W::Reply> + Drop,
 >(
@@ -150,7 +150,7 @@ pub fn retire_at<
 /// Takes the client that is booked for the place k out of it, if its guest was started and has ended, hands
 /// what is left of it to the net, and books that the place is free.
 pub fn take_out_at<
-    N: Net,
+    N: DoorNet,
     W: Guest<N::Client, N::Origin> + Drop,
     P: World<Question = W::Question, Reply = W::Reply> + Drop,
 >(

@@ -1,5 +1,5 @@
-//! The first thread: it lets clients in, starts their guests, takes out those that have ended, and takes turns
-//! as the other threads do.
+//! The first thread: it lets clients in, starts their guests, takes out those that have ended, and takes
+//! turns as the other threads do.
 
 ghost use Rattle.std.specs.Prelude.{◌≡◌, true, OnOk};
 ghost use Rattle.std.specs.List.{sum_by};
@@ -12,7 +12,9 @@ ghost use Rattle.ts_serve.specs.Rooms.{CanAskInRoom};
 use crate::accepting::let_all_in;
 use crate::booking::Booking;
 use crate::door::{Door, Listening};
+use crate::door_net::DoorNet;
 use crate::guest::Guest;
+use crate::helping::PAUSE;
 use crate::looking::{look_at_all, look_next};
 use crate::place::PlaceGroup;
 use crate::starting::start_guests;
@@ -24,10 +26,6 @@ use ts_link::{Clock, Gate, NoMemory};
 use ts_queue::EventQueue;
 use ts_slot::Slots;
 use ts_thread::{Desk, Did, turn_desk};
-use ts_txn::Net;
-
-/// For how long a thread pauses that has nothing to do, in milliseconds.
-pub const PAUSE: u64 = 1;
 
 // The number of the first thread.
 const FIRST: u32 = 0;
@@ -53,7 +51,7 @@ pub fn is_over(door: &Door) -> bool
 
 // Lets clients in, starts their guests, and looks at one place. Answers whether a client came.
 fn tend_door<
-    N: Net,
+    N: DoorNet,
     W: Guest<N::Client, N::Origin> + Drop,
     P: World<Question = W::Question, Reply = W::Reply> + Drop,
     R: Wait,
@@ -81,10 +79,10 @@ fn tend_door<
     Ok(came)
 }
 
-// One round of the first thread: it tends the door and takes a turn. Where that was idle it looks at all places.
-// Answers whether there was nothing to do.
+// One round of the first thread: it tends the door and takes a turn. Where that was idle it looks at all
+// places. Answers whether there was nothing to do.
 fn take_round<
-    N: Net,
+    N: DoorNet,
     W: Guest<N::Client, N::Origin> + Drop,
     P: World<Question = W::Question, Reply = W::Reply> + Drop,
     G: Gate,
@@ -118,10 +116,10 @@ fn take_round<
     Ok(!came)
 }
 
-/// Serves the net until nobody more is let in and what is left of each client was handed over. Where the flag is
-/// set before, another thread lacked memory.
+/// Serves the net until nobody more is let in and what is left of each client was handed over. Where the flag
+/// is set before, another thread lacked memory.
 pub fn keep_door<
-    N: Net,
+    N: DoorNet,
     W: Guest<N::Client, N::Origin> + Drop,
     P: World<Question = W::Question, Reply = W::Reply> + Drop,
     G: Gate,

@@ -97,7 +97,19 @@ impl<C: Link + Drop, O: Upstream<C> + Drop, P: Transform<Line = TransformLine> +
 
     ghost is_ended = { λ t. is_some (end_of_course t.course) };
 
-    ghost is_done = { IsTxnDone C.Link O.Link O.Upstream.own P.Transform };
+    ghost is_done = { λ terms.
+        IsTxnDone C.Link O.Link O.Upstream.own P.Transform terms.setup.value terms.plugins_at };
+
+    // There is one value of the terms, since they show the setup and a number.
+    fn terms(setting: &TxnSetting) -> TxnTerms
+        ensures are { AreTerms setting.now result }
+        ensures only { (other : TxnTerms) → AreTerms setting.now other → other ≡ result }
+    {
+        TxnTerms {
+            setup: Snapshot::of(&*setting.setup),
+            plugins_at: setting.plugins_at,
+        }
+    }
 
     fn make(
         alloc: Global,

@@ -13,9 +13,9 @@ returns-in_err-let_in-clause-seat g c = (
 )
 
 pub returns-in_err-let_in-clause-keeps : goal.returns-in_err-let_in-clause-keeps
-returns-in_err-let_in-clause-keeps g c = door_on g.N.Net.tells g.W.Guest.is_done (HasPlacesOf (tags_of c.args.slots.now))
-    c.args.door.now c.arrivals.door c.let_in.new.door (g.N.Net.seen c.args.net.now)
-    (g.N.Net.seen c.arrivals.net) (g.N.Net.seen c.let_in.new.net) c.arrivals.invariant.3
+returns-in_err-let_in-clause-keeps g c = door_on g.N.DoorNet.tells g.W.Guest.is_done (HasPlacesOf (tags_of c.args.slots.now))
+    c.args.door.now c.arrivals.door c.let_in.new.door (g.N.DoorNet.seen c.args.net.now)
+    (g.N.DoorNet.seen c.arrivals.net) (g.N.DoorNet.seen c.let_in.new.net) c.arrivals.invariant.3
     c.let_in.ensures.keeps
 
 pub returns-then-not-branch-clause-seat : goal.returns-then-not-branch-clause-seat
@@ -26,9 +26,9 @@ returns-then-not-branch-clause-seat g c = (
 )
 
 pub returns-then-not-branch-clause-keeps : goal.returns-then-not-branch-clause-keeps
-returns-then-not-branch-clause-keeps g c = door_on g.N.Net.tells g.W.Guest.is_done (HasPlacesOf (tags_of c.args.slots.now))
-    c.args.door.now c.arrivals.door c.let_in.new.door (g.N.Net.seen c.args.net.now)
-    (g.N.Net.seen c.arrivals.net) (g.N.Net.seen c.let_in.new.net) c.arrivals.invariant.3
+returns-then-not-branch-clause-keeps g c = door_on g.N.DoorNet.tells g.W.Guest.is_done (HasPlacesOf (tags_of c.args.slots.now))
+    c.args.door.now c.arrivals.door c.let_in.new.door (g.N.DoorNet.seen c.args.net.now)
+    (g.N.DoorNet.seen c.arrivals.net) (g.N.DoorNet.seen c.let_in.new.net) c.arrivals.invariant.3
     c.let_in.ensures.keeps
 
 pub arrivals-preserved : goal.arrivals-preserved
@@ -37,9 +37,9 @@ arrivals-preserved g c = (
   seat_on (view c.args.seat.now) (view c.arrivals.seat) (view c.let_in.new.seat) c.arrivals.invariant.1
       (seat_some (view c.arrivals.seat) (view c.let_in.new.seat) 1 c.let_in.ensures.seat.1),
   c.let_in.ensures.door,
-  door_on g.N.Net.tells g.W.Guest.is_done (HasPlacesOf (tags_of c.args.slots.now))
-      c.args.door.now c.arrivals.door c.let_in.new.door (g.N.Net.seen c.args.net.now)
-      (g.N.Net.seen c.arrivals.net) (g.N.Net.seen c.let_in.new.net) c.arrivals.invariant.3
+  door_on g.N.DoorNet.tells g.W.Guest.is_done (HasPlacesOf (tags_of c.args.slots.now))
+      c.args.door.now c.arrivals.door c.let_in.new.door (g.N.DoorNet.seen c.args.net.now)
+      (g.N.DoorNet.seen c.arrivals.net) (g.N.DoorNet.seen c.let_in.new.net) c.arrivals.invariant.3
       c.let_in.ensures.keeps,
   λ all. c.let_in.ensures.all (c.arrivals.invariant.4 all),
 )

@@ -5,7 +5,7 @@ use Rattle.ts_serve.proofs.accepting.let_all_in.Given as goal
 abbrev pub invariant-arrivals : goal.invariant-arrivals
 invariant-arrivals g l =
     IsSeatOf l.slots l.seat × KeepsSome (view l.initial.seat) (view l.seat)
-    × IsDoorOf l.door (g.N.Net.seen l.net)
-    × KeepsDoor g.N.Net.tells g.W.Guest.is_done (HasPlacesOf (tags_of l.slots)) l.initial.door l.door
-    (g.N.Net.seen l.initial.net) (g.N.Net.seen l.net)
-    × LosesNobody l.initial.door l.door (g.N.Net.seen l.initial.net) (g.N.Net.seen l.net)
+    × IsDoorOf l.door (g.N.DoorNet.seen l.net)
+    × KeepsDoor g.N.DoorNet.tells g.W.Guest.is_done (HasPlacesOf (tags_of l.slots)) l.initial.door l.door
+    (g.N.DoorNet.seen l.initial.net) (g.N.DoorNet.seen l.net)
+    × LosesNobody l.initial.door l.door (g.N.DoorNet.seen l.initial.net) (g.N.DoorNet.seen l.net)

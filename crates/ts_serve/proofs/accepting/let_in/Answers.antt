@@ -17,23 +17,23 @@ returns-in_default-receive_at g c = record {
     c.in-Some-enter.ensures.keeps (view c.leave_found.new.seat) c.leave_found.ensures.leaves,
   );
   door = c.receive_at.ensures.door;
-  keeps = door_of g.N.Net.tells g.W.Guest.is_done (HasPlacesOf (tags_of c.args.slots.now)) c.args.door.now
-      c.receive_at.new.door (g.N.Net.seen c.args.net.now) (g.N.Net.seen c.receive_at.new.net)
+  keeps = door_of g.N.DoorNet.tells g.W.Guest.is_done (HasPlacesOf (tags_of c.args.slots.now)) c.args.door.now
+      c.receive_at.new.door (g.N.DoorNet.seen c.args.net.now) (g.N.DoorNet.seen c.receive_at.new.net)
       c.receive_at.ensures.keeps;
   all = c.receive_at.ensures.all;
 }
 
 pub returns-in_default-make-clause-keeps : goal.returns-in_default-make-clause-keeps
-returns-in_default-make-clause-keeps g c = door_of g.N.Net.tells g.W.Guest.is_done
-    (HasPlacesOf (tags_of c.args.slots.now)) c.args.door.now c.receive_at.new.door (g.N.Net.seen c.args.net.now)
-    (g.N.Net.seen c.receive_at.new.net) c.receive_at.ensures.keeps
+returns-in_default-make-clause-keeps g c = door_of g.N.DoorNet.tells g.W.Guest.is_done
+    (HasPlacesOf (tags_of c.args.slots.now)) c.args.door.now c.receive_at.new.door (g.N.DoorNet.seen c.args.net.now)
+    (g.N.DoorNet.seen c.receive_at.new.net) c.receive_at.ensures.keeps
 
 pub returns-in_err-let_live-clause-keeps : goal.returns-in_err-let_live-clause-keeps
-returns-in_err-let_live-clause-keeps g c = door_of g.N.Net.tells g.W.Guest.is_done
-    (HasPlacesOf (tags_of c.args.slots.now)) c.args.door.now c.receive_at.new.door (g.N.Net.seen c.args.net.now)
-    (g.N.Net.seen c.receive_at.new.net) c.receive_at.ensures.keeps
+returns-in_err-let_live-clause-keeps g c = door_of g.N.DoorNet.tells g.W.Guest.is_done
+    (HasPlacesOf (tags_of c.args.slots.now)) c.args.door.now c.receive_at.new.door (g.N.DoorNet.seen c.args.net.now)
+    (g.N.DoorNet.seen c.receive_at.new.net) c.receive_at.ensures.keeps
 
 pub returns-clause-keeps : goal.returns-clause-keeps
-returns-clause-keeps g c = door_of g.N.Net.tells g.W.Guest.is_done
-    (HasPlacesOf (tags_of c.args.slots.now)) c.args.door.now c.receive_at.new.door (g.N.Net.seen c.args.net.now)
-    (g.N.Net.seen c.receive_at.new.net) c.receive_at.ensures.keeps
+returns-clause-keeps g c = door_of g.N.DoorNet.tells g.W.Guest.is_done
+    (HasPlacesOf (tags_of c.args.slots.now)) c.args.door.now c.receive_at.new.door (g.N.DoorNet.seen c.args.net.now)
+    (g.N.DoorNet.seen c.receive_at.new.net) c.receive_at.ensures.keeps

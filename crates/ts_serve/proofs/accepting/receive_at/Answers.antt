@@ -7,7 +7,7 @@ pub returns-in-Came-clause-keeps : goal.returns-in-Came-clause-keeps
 returns-in-Came-clause-keeps g c = record {
   most = refl;
   account = λ first was. account_came first c.in-Came.client c.in-Came.origin c.args.door.now _
-      (g.N.Net.seen c.args.net.now) (g.N.Net.seen c.receive.new.net) refl refl refl c.requires.open.1
+      (g.N.DoorNet.seen c.args.net.now) (g.N.DoorNet.seen c.receive.new.net) refl refl refl c.requires.open.1
       c.in-Came.ensures.receives was;
   books = λ telling terms misdials are. c.receive.ensures.books telling terms misdials;
 }
@@ -16,7 +16,7 @@ pub returns-in-Nobody-clause-keeps : goal.returns-in-Nobody-clause-keeps
 returns-in-Nobody-clause-keeps g c = record {
   most = refl;
   account = λ first was. account_nobody first c.args.door.now _
-      (g.N.Net.seen c.args.net.now) (g.N.Net.seen c.receive.new.net) refl refl refl
+      (g.N.DoorNet.seen c.args.net.now) (g.N.DoorNet.seen c.receive.new.net) refl refl refl
       c.in-Nobody.ensures.receives was;
   books = λ telling terms misdials are. c.receive.ensures.books telling terms misdials;
 }
@@ -25,7 +25,7 @@ pub returns-in-Closed-clause-keeps : goal.returns-in-Closed-clause-keeps
 returns-in-Closed-clause-keeps g c = record {
   most = refl;
   account = λ first was. account_closed first c.args.door.now _
-      (g.N.Net.seen c.args.net.now) (g.N.Net.seen c.receive.new.net) refl refl refl
+      (g.N.DoorNet.seen c.args.net.now) (g.N.DoorNet.seen c.receive.new.net) refl refl refl
       c.in-Closed.ensures.receives was;
   books = λ telling terms misdials are. c.receive.ensures.books telling terms misdials;
 }
@@ -34,7 +34,7 @@ pub returns-in-Failed-clause-keeps : goal.returns-in-Failed-clause-keeps
 returns-in-Failed-clause-keeps g c = record {
   most = refl;
   account = λ first was. account_failed first c.args.door.now _
-      (g.N.Net.seen c.args.net.now) (g.N.Net.seen c.receive.new.net) refl refl refl
+      (g.N.DoorNet.seen c.args.net.now) (g.N.DoorNet.seen c.receive.new.net) refl refl refl
       c.in-Failed.ensures.receives was;
   books = λ telling terms misdials are. c.receive.ensures.books telling terms misdials;
 }

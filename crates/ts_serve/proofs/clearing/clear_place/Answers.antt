@@ -10,8 +10,8 @@ pub returns-in_ok-hand_over-clause-books : goal.returns-in_ok-hand_over-clause-b
 returns-in_ok-hand_over-clause-books g c = λ tells terms fits misdials books.
     let row = c.args.row.now.items in
     let booked = c.in-Client in
-    let old = g.N.Net.seen c.args.net.now in
-    let new = g.N.Net.seen c.hand_over.new.net in
+    let old = g.N.DoorNet.seen c.args.net.now in
+    let new = g.N.DoorNet.seen c.hand_over.new.net in
     let found : get_or row c.args.k Free ≡ Client booked.number booked.has_origin booked.started =
     sym (get_or_read row c.args.k c.index.result.now c.requires.place c.index.ensures Free) ∙ booked.is in
     let over = c.in_ok-hand_over.ensures.ok terms fits in

@@ -13,11 +13,11 @@ invariant-places g l =
     g.P.Slotted.fits g.P.World.sound g.P.World.only_asked g.P.World.is_first terms l.fn.groups.items
     → FitPlacesFrom g.W.Slotted.fits g.W.Lodger.keeps g.W.World.sound g.P.Slotted.fits
     g.P.World.sound g.P.World.only_asked g.P.World.is_first l.k terms l.rest.items)
-    × KeepsBooks g.N.Net.tells g.W.Guest.is_done
+    × KeepsBooks g.N.DoorNet.tells g.W.Guest.is_done
     (λ terms. FitPlaces g.W.Slotted.fits g.W.Lodger.keeps g.W.World.sound g.P.Slotted.fits
     g.P.World.sound g.P.World.only_asked g.P.World.is_first terms l.fn.groups.items)
-    l.initial.row.items (g.N.Net.seen l.initial.net) l.row.items (g.N.Net.seen l.net)
-    × IsNotAsked (g.N.Net.seen l.initial.net) (g.N.Net.seen l.net)
+    l.initial.row.items (g.N.DoorNet.seen l.initial.net) l.row.items (g.N.DoorNet.seen l.net)
+    × IsNotAsked (g.N.DoorNet.seen l.initial.net) (g.N.DoorNet.seen l.net)
 
 abbrev pub decreases-places : goal.decreases-places
 decreases-places g l = length l.rest.items

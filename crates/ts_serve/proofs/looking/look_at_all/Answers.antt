@@ -13,9 +13,9 @@ returns-in_err-look_next-clause-seat g c = (
 )
 
 pub returns-in_err-look_next-clause-keeps : goal.returns-in_err-look_next-clause-keeps
-returns-in_err-look_next-clause-keeps g c = door_on g.N.Net.tells g.W.Guest.is_done (HasPlacesOf (tags_of c.args.slots.now))
-    c.args.door.now c.places.door c.look_next.new.door (g.N.Net.seen c.args.net.now)
-    (g.N.Net.seen c.places.net) (g.N.Net.seen c.look_next.new.net) c.places.invariant.3
+returns-in_err-look_next-clause-keeps g c = door_on g.N.DoorNet.tells g.W.Guest.is_done (HasPlacesOf (tags_of c.args.slots.now))
+    c.args.door.now c.places.door c.look_next.new.door (g.N.DoorNet.seen c.args.net.now)
+    (g.N.DoorNet.seen c.places.net) (g.N.DoorNet.seen c.look_next.new.net) c.places.invariant.3
     c.look_next.ensures.keeps
 
 pub places-preserved : goal.places-preserved
@@ -24,9 +24,9 @@ places-preserved g c = (
   seat_on (view c.args.seat.now) (view c.places.seat) (view c.look_next.new.seat) c.places.invariant.1
       (seat_some (view c.places.seat) (view c.look_next.new.seat) 1 c.look_next.ensures.seat.1),
   c.look_next.ensures.door,
-  door_on g.N.Net.tells g.W.Guest.is_done (HasPlacesOf (tags_of c.args.slots.now))
-      c.args.door.now c.places.door c.look_next.new.door (g.N.Net.seen c.args.net.now)
-      (g.N.Net.seen c.places.net) (g.N.Net.seen c.look_next.new.net) c.places.invariant.3
+  door_on g.N.DoorNet.tells g.W.Guest.is_done (HasPlacesOf (tags_of c.args.slots.now))
+      c.args.door.now c.places.door c.look_next.new.door (g.N.DoorNet.seen c.args.net.now)
+      (g.N.DoorNet.seen c.places.net) (g.N.DoorNet.seen c.look_next.new.net) c.places.invariant.3
       c.look_next.ensures.keeps,
   λ all. c.in_ok-look_next.ensures.all (c.places.invariant.4 all),
 )

@@ -2,7 +2,8 @@
 use Rattle.std.proofs.Common.{ap, sym, ◌∙◌}
 use Rattle.std.proofs.lemmas.Result.{on_ok_weaker}
 use Rattle.ts_group.specs.declared.either.Either.TheVariants.{One}
-use Rattle.ts_serve.proofs.Living.{ended_in, is_kept, one_guest}
+use Rattle.ts_journal.proofs.Final.{is_kept}
+use Rattle.ts_serve.proofs.Living.{ended_in, one_guest}
 use Rattle.ts_serve.proofs.retiring.hand_over.Goals as goal
 
 pub returns-clause-ok : goal.returns-clause-ok

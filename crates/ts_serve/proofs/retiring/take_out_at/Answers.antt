@@ -14,8 +14,8 @@ returns-then-branch-clause-all g c =
     sym (get_or_read c.args.row.now.items c.args.k c.index.result.now c.requires.place.1 c.index.ensures Free)
     ∙ booked.is in
     let over = c.in_ok-retire_at.ensures.retired c.if-branch.true place.0 place.1 in
-    all_out g.N.Net.tells c.args.row.now.items c.args.k booked.number booked.has_origin booked.started
-    over.retired (g.N.Net.seen c.args.net.now) (g.N.Net.seen c.retire_at.new.net) c.requires.place.1 found
+    all_out g.N.DoorNet.tells c.args.row.now.items c.args.k booked.number booked.has_origin booked.started
+    over.retired (g.N.DoorNet.seen c.args.net.now) (g.N.DoorNet.seen c.retire_at.new.net) c.requires.place.1 found
     over.handed
 
 pub returns-then-branch-clause-net : goal.returns-then-branch-clause-net

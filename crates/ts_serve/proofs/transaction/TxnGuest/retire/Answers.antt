@@ -34,5 +34,11 @@ returns-clause-done g c = λ terms here.
       ended = parts.end.1 ∙ ending.1;
       so = c.end-end.ensures.law ending.0 (c.end-end.ensures.end ∙ ending.1) c.args.journal.state.pending
           c.args.journal.state.next here.roles here.sound;
+      cause = c.end-end.ensures.causes ending.0 (c.end-end.ensures.end ∙ ending.1) c.args.journal.state.pending
+          c.args.journal.state.next here.roles here.sound;
+      once = c.end-end.ensures.once c.args.journal.state.pending c.args.journal.state.next here.roles
+          here.sound;
+      first = c.end-end.ensures.first c.args.journal.state.pending c.args.journal.state.next here.roles
+          here.sound;
       final = here.final;
     }

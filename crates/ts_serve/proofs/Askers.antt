@@ -1,0 +1,231 @@
+-- The groups of a room whose guests are transactions can be asked: those that a transaction asks are the plugins
+-- beside the places.
+use Rattle.std.proofs.Common.{◌≡◌, ◌≢◌, ℕ, zero, suc, ◌+◌, ◌<◌, ◌≤◌, List, [], ◌∷◌, ◌++◌, All, length, map}
+use Rattle.std.proofs.Common.{replicate, Bool, true, false, refl, sym, ap, subst, ◌∙◌, arith}
+use Rattle.std.specs.Prelude.{Option, Some, slice_get, ⊤}
+use Rattle.std.specs.Arc.{arc_value}
+use Rattle.std.specs.List.{AllZip}
+use Rattle.std.proofs.lemmas.List.Elements.{All-cons, All-nil}
+use Rattle.std.proofs.lemmas.Option.{same_Some}
+use Rattle.std.proofs.lemmas.Slice.Zip.{AllZip-long}
+use Rattle.ts_config.specs.declared.fields.PluginLine.{PluginLine}
+use Rattle.ts_config.specs.declared.setup.Setup.{Setup}
+use Rattle.ts_group.specs.Either.{EitherFits, EitherMayAsk, EitherRight, EitherAnswers, tag_of}
+use Rattle.ts_group.specs.declared.either.Either.{Either}
+use Rattle.ts_group.specs.declared.either.Either.TheVariants.{One, Other}
+use Rattle.ts_group.specs.declared.either.EitherTag.{EitherTag}
+use Rattle.ts_group.specs.declared.either.EitherTag.TheVariants as kind
+use Rattle.ts_link.specs.Link.{Look}
+use Rattle.ts_plugin.specs.Replies.{IsReplyOf}
+use Rattle.ts_plugin.specs.World.{IsPluginOf, OnlyAnswers}
+use Rattle.ts_plugin.specs.declared.plugin.Plugin.{Plugin}
+use Rattle.ts_plugin.specs.declared.plugin.PluginTag.{PluginTag}
+use Rattle.ts_plugin.specs.declared.question.HookQuestion.{HookQuestion}
+use Rattle.ts_plugin.specs.declared.question.HookReply.{HookReply}
+use Rattle.ts_slot.specs.Limits.{most_groups}
+use Rattle.ts_txn.specs.Asking.{IsRightFor, MayAskGroup}
+use Rattle.ts_txn.specs.Making.{IsTxnSetup}
+use Rattle.ts_txn.specs.World.{IsTxnOf, LetsContinue}
+use Rattle.ts_txn.specs.declared.txn.Txn.{Txn}
+use Rattle.ts_serve.specs.Places.{PlaceFits, PlaceMayAsk, PlaceRight, PlaceAnswers}
+use Rattle.ts_serve.specs.Rooms.{CanAskInRoom, StandsBeside, room_tags}
+use Rattle.ts_serve.specs.Transactions.{ArePluginsOf, IsPluginOfLine, KeepsTerms}
+use Rattle.ts_serve.specs.declared.door.TheConstants.{PLACES}
+use Rattle.ts_serve.specs.declared.opening.Beside.{Beside}
+use Rattle.ts_serve.specs.declared.place.Place.{Place}
+use Rattle.ts_serve.specs.declared.place.Place.TheVariants.{Empty, Tenant}
+use Rattle.ts_serve.specs.declared.transaction.TxnTerms.{TxnTerms}
+
+-- ---- where places and plugins stand
+
+-- the tag of a world beside the places
+abbrev other_tag : {A : Type 0} → Beside Plugin PluginTag → EitherTag A PluginTag
+other_tag b = kind.Other b.tag
+
+-- beside the places no tag is one of a place
+not_beside : {A : Type 0} (others : List (Beside Plugin PluginTag)) (k : ℕ) (terms : A)
+    → slice_get (map other_tag others) k ≡ Some (kind.One terms) → ⊥
+not_beside [] k terms at = absurd (cc)
+not_beside (b ∷ bs) zero terms at = absurd (cc)
+not_beside (b ∷ bs) (suc k) terms at = not_beside bs k terms at
+
+-- what has the tag of a place stands among the places, and has their terms
+place_tag : {A : Type 0} (n k : ℕ) (terms own : A) (others : List (Beside Plugin PluginTag))
+    → slice_get (replicate n (kind.One terms) ++ map other_tag others) k ≡ Some (kind.One own)
+    → (k < n) × (own ≡ terms)
+place_tag zero k terms own others at = absurd (not_beside others k own at)
+place_tag (suc n) zero terms own others at = (omega arith, cc)
+place_tag (suc n) (suc k) terms own others at =
+    let on = place_tag n k terms own others at in
+    let below = on.0 in (omega (arith, below), on.1)
+
+-- the tag of a plugin of this line stands at the place
+record HasPluginAt {A : Type 0} (tags : List (EitherTag A PluginTag)) (k : ℕ) (line : PluginLine)
+    : Type 0 where
+  pub tag : PluginTag
+  pub there : slice_get tags k ≡ Some (kind.Other tag)
+  pub line_is : tag.line.value ≡ line
+
+-- that of the line at each place stands at this place among those of the plugins
+plugin_at : {A : Type 0} (lines : List PluginLine) (others : List (Beside Plugin PluginTag))
+    → ArePluginsOf lines others → (place : ℕ) (line : PluginLine) → slice_get lines place ≡ Some line
+    → HasPluginAt {A = A} (map other_tag others) place line
+plugin_at [] others are place line there = absurd (cc)
+plugin_at (l ∷ ls) [] are place line there = absurd are
+plugin_at (l ∷ ls) (b ∷ bs) are zero line there =
+    let same : l ≡ line = cc in record { tag = b.tag; there = refl; line_is = are.0.tag_is ∙ same }
+plugin_at {A} (l ∷ ls) (b ∷ bs) are (suc place) line there =
+    let on = plugin_at {A = A} ls bs are.1 place line there in
+    record { tag = on.tag; there = on.there; line_is = on.line_is }
+
+-- behind so many places
+behind : {X : Type 0} (n k : ℕ) (x : X) (xs : List X)
+    → slice_get (replicate n x ++ xs) (n + k) ≡ slice_get xs k
+behind zero k x xs = let same : 0 + k ≡ k = omega arith in ap (slice_get xs) same
+behind (suc n) k x xs =
+    let same : suc n + k ≡ suc (n + k) = omega arith in
+    ap (slice_get (replicate (suc n) x ++ xs)) same ∙ behind n k x xs
+
+-- a place below the length has a line
+line_at : (lines : List PluginLine) (place : ℕ) → place < length lines
+    → (line : PluginLine) × (slice_get lines place ≡ Some line)
+line_at [] place below = absurd (omega arith)
+line_at (l ∷ ls) zero below = (l, refl)
+line_at (l ∷ ls) (suc place) below = line_at ls place (omega arith)
+
+-- ---- who asks whom
+
+module _ (C O Q : Type 0) (clook : C → Look) (olook : O → Look) (setup : Setup) (terms : TxnTerms)
+    (others : List (Beside Plugin PluginTag)) (setup_is : terms.setup.value ≡ setup)
+    (at_places : terms.plugins_at ≡ PLACES) (are : ArePluginsOf setup.plugins.items others) where
+  -- whom a world of the room may ask, which replies are right for it, and which it gives
+  abbrev Room : Type 0
+  Room = Either (Place (Txn C O Q)) Plugin
+
+  abbrev FitsTag : EitherTag TxnTerms PluginTag → Room → Type 0
+  FitsTag = EitherFits (PlaceFits (λ tag t. IsTxnOf clook olook tag t) (KeepsTerms clook)) IsPluginOf
+
+  abbrev MayAsk : Room → ℕ → Type 0
+  MayAsk = EitherMayAsk (PlaceMayAsk MayAskGroup) (λ p group. ⊥)
+
+  abbrev IsRight : Room → ℕ → HookQuestion → HookReply → Type 0
+  IsRight = EitherRight (PlaceRight IsRightFor) (λ p group question reply. ⊤)
+
+  abbrev Answers : Room → HookQuestion → HookReply → Type 0
+  Answers = EitherAnswers (PlaceAnswers (λ t question reply. LetsContinue question reply))
+      (λ p question reply. IsReplyOf p.line question reply)
+
+  abbrev asked_only : EitherTag TxnTerms PluginTag → Bool
+  asked_only = tag_of (λ terms. false) (λ tag. true)
+
+  abbrev tags : List (EitherTag TxnTerms PluginTag)
+  tags = room_tags terms others
+
+  plugin_of : (place : ℕ) (line : PluginLine) → slice_get setup.plugins.items place ≡ Some line
+      → HasPluginAt tags (PLACES + place) line
+  plugin_of place line there =
+      let on = plugin_at setup.plugins.items others are place line there in record {
+        tag = on.tag;
+        there = behind PLACES place (kind.One terms) (map other_tag others) ∙ on.there;
+        line_is = on.line_is;
+      }
+
+  -- a transaction in a place has the setup, and the groups behind the places for its plugins
+  own_setup : (j : ℕ) (own : TxnTerms) (t : Txn C O Q) → slice_get tags j ≡ Some (kind.One own)
+      → PlaceFits (λ tag t. IsTxnOf clook olook tag t) (KeepsTerms clook) own (Tenant t)
+      → (arc_value t.core.setup ≡ setup) × (t.core.plugins_at ≡ PLACES)
+  own_setup j own t there fits =
+      let same = (place_tag PLACES j terms own others there).1 in (
+        fits.2.setup ∙ fits.1.setup ∙ ap (λ (s : TxnTerms). s.setup.value) same ∙ setup_is,
+        fits.2.plugins_at ∙ fits.1.plugins_at ∙ ap (λ (s : TxnTerms). s.plugins_at) same ∙ at_places,
+      )
+
+  -- whom it may ask stands behind the places, and is only asked
+  asks_behind : (j k : ℕ) (own : TxnTerms) (t : Txn C O Q) → slice_get tags j ≡ Some (kind.One own)
+      → PlaceFits (λ tag t. IsTxnOf clook olook tag t) (KeepsTerms clook) own (Tenant t) → MayAskGroup t k
+      → (j ≢ k) × (u : EitherTag TxnTerms PluginTag) × (slice_get tags k ≡ Some u) × (asked_only u ≡ true)
+  asks_behind j k own t there fits may =
+      let below = (place_tag PLACES j terms own others there).0 in
+      let has = own_setup j own t there fits in
+      let group : k ≡ PLACES + may.place = may.group_is ∙ ap (λ n. n + may.place) has.1 in
+      let few = subst (λ (s : Setup). may.place < length s.plugins.items) has.0 may.there in
+      let (line, is) = line_at setup.plugins.items may.place few in
+      let p = plugin_of may.place line is in (
+        λ same. absurd (omega (arith, same, below, group)),
+        kind.Other p.tag,
+        ap (slice_get tags) group ∙ p.there,
+        refl,
+      )
+
+  -- what a world replies that fits the tag of a plugin is what the line says
+  reply_of_tag : (tag : PluginTag) (line : PluginLine) (v : Room) (q : HookQuestion) (r : HookReply)
+      → tag.line.value ≡ line → FitsTag (kind.Other tag) v → Answers v q r → IsReplyOf line q r
+  reply_of_tag tag line (One x) q r is fits answers = absurd fits
+  reply_of_tag tag line (Other p) q r is fits answers = subst (λ l. IsReplyOf l q r) (fits ∙ is) answers
+
+  -- and what a plugin replies is right for a transaction that may ask it
+  right_of : (j k : ℕ) (own : TxnTerms) (u : EitherTag TxnTerms PluginTag) (t : Txn C O Q) (v : Room)
+      (q : HookQuestion) (r : HookReply) → slice_get tags j ≡ Some (kind.One own)
+      → PlaceFits (λ tag t. IsTxnOf clook olook tag t) (KeepsTerms clook) own (Tenant t)
+      → slice_get tags k ≡ Some u → FitsTag u v → Answers v q r → IsRightFor t k q r
+  right_of j k own u t v q r there fits at fit answers place line is group =
+      let has = own_setup j own t there fits in
+      let stands = ap (λ (s : Setup). slice_get s.plugins.items place) (sym has.0) ∙ is in
+      let here : k ≡ PLACES + place = group ∙ ap (λ n. n + place) has.1 in
+      let p = plugin_of place line stands in
+      let same : u ≡ kind.Other p.tag =
+      same_Some u (kind.Other p.tag) (sym at ∙ ap (slice_get tags) here ∙ p.there) in
+      reply_of_tag p.tag line v q r p.line_is (subst (λ w. FitsTag w v) same fit) answers
+
+  asks_others : (j k : ℕ) (s : EitherTag TxnTerms PluginTag) (w : Room) → slice_get tags j ≡ Some s
+      → FitsTag s w → MayAsk w k
+      → (j ≢ k) × (u : EitherTag TxnTerms PluginTag) × (slice_get tags k ≡ Some u) × (asked_only u ≡ true)
+  asks_others j k (kind.One own) (One Empty) there fits may = absurd may
+  asks_others j k (kind.One own) (One (Tenant t)) there fits may = asks_behind j k own t there fits may
+  asks_others j k (kind.One own) (Other p) there fits may = absurd fits
+  asks_others j k (kind.Other s) (One x) there fits may = absurd fits
+  asks_others j k (kind.Other s) (Other p) there fits may = absurd may
+
+  replies : (j k : ℕ) (s u : EitherTag TxnTerms PluginTag) (w v : Room) (q : HookQuestion) (r : HookReply)
+      → slice_get tags j ≡ Some s → FitsTag s w → slice_get tags k ≡ Some u → FitsTag u v → Answers v q r
+      → IsRight w k q r
+  replies j k (kind.One own) u (One Empty) v q r there fits at fit answers = tt
+  replies j k (kind.One own) u (One (Tenant t)) v q r there fits at fit answers =
+      right_of j k own u t v q r there fits at fit answers
+  replies j k (kind.One own) u (Other p) v q r there fits at fit answers = tt
+  replies j k (kind.Other s) u (One x) v q r there fits at fit answers = absurd fits
+  replies j k (kind.Other s) u (Other p) v q r there fits at fit answers = tt
+
+  -- the groups of the room can ask each other
+  pub room_asks : CanAskInRoom (λ tag t. IsTxnOf clook olook tag t) (KeepsTerms clook)
+      (MayAskGroup {C = C} {O = O} {Q = Q}) IsRightFor (λ t question reply. LetsContinue question reply)
+      IsPluginOf (λ tag. true) (λ p group. ⊥) (λ p group question reply. ⊤)
+      (λ p question reply. IsReplyOf p.line question reply) tags
+  room_asks = record { others = asks_others; replies = replies }
+
+-- ---- how plugins stand beside the places
+
+-- the plugins of lines fit their tags, are only asked, and are sound before anything was done in their groups
+pub plugins_stand : (lines : List PluginLine) (others : List (Beside Plugin PluginTag))
+    → ArePluginsOf lines others
+    → All (StandsBeside IsPluginOf (λ p s roles. OnlyAnswers s) (λ tag. true)) others
+plugins_stand [] [] are = All-nil (StandsBeside IsPluginOf (λ p s roles. OnlyAnswers s) (λ tag. true))
+plugins_stand [] (b ∷ bs) are = absurd are
+plugins_stand (l ∷ ls) [] are = absurd are
+plugins_stand (l ∷ ls) (b ∷ bs) are =
+    All-cons (StandsBeside IsPluginOf (λ p s roles. OnlyAnswers s) (λ tag. true)) b bs
+    (record {
+      fits = are.0.world ∙ sym are.0.tag_is;
+      asked = refl;
+      sound = λ now fresh. subst OnlyAnswers (sym fresh.state) (record { only = refl; plain = tt });
+    })
+    (plugins_stand ls bs are.1)
+
+-- there are slots for them
+pub plugins_few : (setup : Setup) (others : List (Beside Plugin PluginTag))
+    → ArePluginsOf setup.plugins.items others → IsTxnSetup setup PLACES
+    → PLACES + length others ≤ most_groups
+plugins_few setup others are is =
+    let few = is.few.groups in
+    let long = AllZip-long IsPluginOfLine setup.plugins.items others are in
+    omega (arith, few, long)

@@ -1,0 +1,45 @@
+-- What serving a net comes to: what the net was handed by its end, and why the end came.
+use Rattle.std.specs.Prelude.{⊤, ◌≡◌, ◌⊎◌, ℕ, ◌+◌, ◌≤◌, All}
+use Rattle.std.specs.List.{sum_by}
+use Rattle.ts_link.specs.Counts.{Rose, greatest}
+use Rattle.ts_txn.specs.Net.{NetSeen}
+use Rattle.ts_txn.specs.declared.retired.Retired.{Retired}
+use Rattle.ts_serve.specs.declared.door.Served.{Served}
+use Rattle.ts_serve.specs.declared.door.Served.TheVariants as served
+use Rattle.ts_serve.specs.declared.door.Listening.{Listening}
+use Rattle.ts_serve.specs.declared.door.Listening.TheVariants as listening
+use Rattle.ts_serve.specs.Books.{had_number, is_given, lacked_origin}
+
+-- how serving ended where the threads did what they were to, by whether the net gives more clients
+abbrev pub served_by : Listening → Served
+served_by listening.Open = served.Whole
+served_by listening.Closed = served.Whole
+served_by listening.Failed = served.Failed
+
+module _ {C O : Type 0} where
+  -- What a net that tells was handed while it was served.
+  pub record AreRetired (Done : Retired C O → Type 0) (old new : NetSeen C O) : Type 0 where
+    -- of each holds what holds of one that is done
+    pub each : All Done new.retired
+    -- its number is that of a client that the net gave, and no number stands twice
+    pub once : (x : ℕ) → sum_by (had_number x) new.retired ≤ is_given new x
+    -- no more have no origin than dials were missed, unless that count is at its end
+    pub dialed : (old.counts.misdials + sum_by lacked_origin new.retired ≤ new.counts.misdials)
+        ⊎ (greatest ≤ new.counts.misdials)
+
+  -- Of each client that the net gave, what is left of it was handed over.
+  abbrev pub HandsAllOver : NetSeen C O → Type 0
+  HandsAllOver net = net.handed ≡ net.given
+
+  -- Why serving a net ended so: it gave as many clients as were to come, or it is closed; or it failed. What
+  -- is left of each client was handed over then. Where memory lacked, nothing is said.
+  abbrev pub HasEndedFor : Served → ℕ → NetSeen C O → NetSeen C O → Type 0
+  HasEndedFor served.Whole most old new =
+      HandsAllOver new × ((new.given ≡ most) ⊎ Rose old.counts.ends new.counts.ends)
+  HasEndedFor served.Failed most old new = HandsAllOver new × Rose old.counts.faults new.counts.faults
+  HasEndedFor served.NoMemory most old new = ⊤
+
+  -- What the net gave and counted while it was served, and why that ended.
+  pub record IsServed (result : Served) (most : ℕ) (old new : NetSeen C O) : Type 0 where
+    pub few : new.given ≤ most
+    pub ended : HasEndedFor result most old new
