@@ -4,7 +4,8 @@ use Rattle.std.proofs.Common.{◌≡◌, ◌⊎◌, ℕ, Bool, true, false, List
 use Rattle.std.proofs.Common.{refl, subst, sym, arith, if◌then◌else◌}
 use Rattle.std.proofs.lemmas.List.{append-nil}
 use Rattle.ts_config.specs.Setup.{ConfigLines}
-use Rattle.ts_config.specs.Value.{Reading, Good, Bad, setup_of}
+use Rattle.ts_config.specs.Value.{Reading, Good, Bad, config_of}
+use Rattle.ts_config.specs.declared.setup.ConfigKind.{ConfigKind}
 use Rattle.ts_config.specs.declared.setup.TransformLine.{TransformLine}
 use Rattle.ts_config.specs.declared.setup.TransformLine.TheVariants as t
 use Rattle.ts_journal.specs.Log.{Log}
@@ -12,56 +13,90 @@ use Rattle.ts_link.specs.Seen.{ShelfSeen, SinkSeen}
 use Rattle.ts_proxy.specs.declared.answer.Answer.{Answer}
 use Rattle.ts_proxy.specs.declared.answer.Answer.TheVariants as a
 use Rattle.ts_proxy.specs.declared.command.GenerateTask.{GenerateTask}
-use Rattle.ts_proxy.specs.Answers.{ComesAt, IsCausedBy, IsTextOf, OnCannotRead, TookAt, file_name}
-use Rattle.ts_proxy.specs.Ends.{EndsAt, IsStatus, IsStatusOf, TakesAt, bad_line, status_of, too_long, usage}
-use Rattle.ts_proxy.specs.Outcome.{Outcome, Usage, BadLine, Missing, Long, Text, Report, Summary, filled}
+use Rattle.ts_proxy.specs.Answers.{ComesAt, IsCausedBy, IsTextOf, OnCannotRead, OnQuiet, TookAt, TookText}
+use Rattle.ts_proxy.specs.Answers.{file_name}
+use Rattle.ts_proxy.specs.Ends.{EndsAt, IsQuiet, IsStatus, IsStatusOf, Takes, TakesAt, bad_line, done}
+use Rattle.ts_proxy.specs.Ends.{out_of_memory, cannot_write, status_of, too_long, usage}
+use Rattle.ts_proxy.specs.Outcome.{Outcome, Usage, BadLine, Missing, Long, Text, Report, Summary, Serving, filled}
 use Rattle.ts_proxy.specs.Outcome.{line_filled, lines_filled, most_append, most_config, most_input, opened}
-use Rattle.ts_proxy.specs.Outcome.{outcome_of, performed, understood, with_transforms, worked}
+use Rattle.ts_proxy.specs.Outcome.{outcome_of, performed, set_up, understood, with_transforms, worked}
 use Rattle.ts_proxy.specs.Performed.{IsPerformed, NamesFiles}
-use Rattle.ts_proxy.specs.Took.{TookSome, TookWhole}
-use Rattle.ts_proxy.specs.Words.{Command, Transform, Replay, Task, Over, Make, config_in, input_in}
+use Rattle.ts_proxy.specs.Took.{TookNothing, TookSome, TookWhole}
+use Rattle.ts_proxy.specs.Words.{Command, Transform, Replay, Task, Over, Make, Serve, config_in, input_in}
+use Rattle.ts_proxy.specs.Words.{is_told}
 
--- an outcome of a command over files
+-- ---- which outcomes a command has
+
+-- What holds where the configuration or a file of its lines is not there, is too long or is refused, and of
+-- what comes behind it, holds of the outcome.
+module _ (Is : Outcome → Type 0) (missing : (name : List ℕ) → Is (Missing name))
+    (long : (name : List ℕ) → Is (Long name))
+    (bad : (n : ℕ) (k : ConfigKind) → Is (BadLine n k)) where
+  if-of : (b : Bool) (x y : Outcome) → Is x → Is y → Is (if b then x else y)
+  if-of true x y h k = h
+  if-of false x y h k = k
+
+  opened-of : (o : Option (List ℕ)) (most : ℕ) (name : List ℕ) (next : List ℕ → Outcome)
+      → ((bytes : List ℕ) → Is (next bytes)) → Is (opened o most name next)
+  opened-of None most name next h = missing name
+  opened-of (Some bytes) most name next h =
+      if-of (nat_le (length bytes) most) (next bytes) (Long name) (h bytes) (long name)
+
+  line-of : (files : List ℕ → Option (List ℕ)) (l : TransformLine) (next : TransformLine → Outcome)
+      → ((x : TransformLine) → Is (next x)) → Is (line_filled files l next)
+  line-of files (t.Append name text) next h =
+      opened-of (files name) most_append name (λ bytes. next (t.Append name bytes))
+      (λ bytes. h (t.Append name bytes))
+  line-of files t.Null next h = h t.Null
+  line-of files t.Bnull next h = h t.Bnull
+  line-of files (t.Prepend text) next h = h (t.Prepend text)
+  line-of files (t.Map from to) next h = h (t.Map from to)
+  line-of files (t.Drop byte) next h = h (t.Drop byte)
+  line-of files (t.Delay ms) next h = h (t.Delay ms)
+
+  filled-of : (files : List ℕ → Option (List ℕ)) (ls : List TransformLine)
+      (next : List TransformLine → Outcome)
+      → ((xs : List TransformLine) → Is (next xs)) → Is (filled files ls next)
+  filled-of files [] next h = h []
+  filled-of files (l ∷ ls) next h =
+      line-of files l (λ first. filled files ls (λ rest. next (first ∷ rest)))
+      (λ first. filled-of files ls (λ rest. next (first ∷ rest)) (λ rest. h (first ∷ rest)))
+
+  understood-of : (files : List ℕ → Option (List ℕ)) (r : Reading) (next : ConfigLines → Outcome)
+      → ((xs : ConfigLines) → Is (next xs)) → Is (understood r (λ ls. lines_filled files ls next))
+  understood-of files (Good lines) next h =
+      filled-of files lines.transforms (λ ts. next (with_transforms ts lines))
+      (λ ts. h (with_transforms ts lines))
+  understood-of files (Bad n k) next h = bad n k
+
+  set-up-of : (files : List ℕ → Option (List ℕ)) (config : List ℕ) (next : ConfigLines → Outcome)
+      → ((xs : ConfigLines) → Is (next xs)) → Is (set_up files config next)
+  set-up-of files config next h =
+      opened-of (files config) most_config config
+      (λ bytes. understood (config_of bytes) (λ ls. lines_filled files ls next))
+      (λ bytes. understood-of files (config_of bytes) next h)
+
+  performed-by : (command : Command) → ((lines : ConfigLines) (bytes : List ℕ)
+      → Is (worked command lines bytes))
+      → (files : List ℕ → Option (List ℕ)) (config input : List ℕ) → Is (performed command files config input)
+  performed-by command h files config input =
+      set-up-of files config (λ lines. opened (files input) most_input input (worked command lines))
+      (λ lines. opened-of (files input) most_input input (worked command lines) (h lines))
+
+-- an outcome of a command over files, which writes a text
 abbrev IsOfFiles : Outcome → Type 0
 IsOfFiles Usage = ⊥
 IsOfFiles (Summary numbers) = ⊥
+IsOfFiles (Serving lines) = ⊥
 IsOfFiles _ = ⊤
 
-if-of : (b : Bool) (x y : Outcome) → IsOfFiles x → IsOfFiles y → IsOfFiles (if b then x else y)
-if-of true x y h k = h
-if-of false x y h k = k
-
-opened-of : (o : Option (List ℕ)) (most : ℕ) (name : List ℕ) (next : List ℕ → Outcome)
-    → ((bytes : List ℕ) → IsOfFiles (next bytes)) → IsOfFiles (opened o most name next)
-opened-of None most name next h = tt
-opened-of (Some bytes) most name next h = if-of (nat_le (length bytes) most) (next bytes) (Long name) (h bytes)
-    tt
-
-line-of : (files : List ℕ → Option (List ℕ)) (l : TransformLine) (next : TransformLine → Outcome)
-    → ((x : TransformLine) → IsOfFiles (next x)) → IsOfFiles (line_filled files l next)
-line-of files (t.Append name text) next h =
-    opened-of (files name) most_append name (λ bytes. next (t.Append name bytes))
-    (λ bytes. h (t.Append name bytes))
-line-of files t.Null next h = h t.Null
-line-of files t.Bnull next h = h t.Bnull
-line-of files (t.Prepend text) next h = h (t.Prepend text)
-line-of files (t.Map from to) next h = h (t.Map from to)
-line-of files (t.Drop byte) next h = h (t.Drop byte)
-line-of files (t.Delay ms) next h = h (t.Delay ms)
-
-filled-of : (files : List ℕ → Option (List ℕ)) (ls : List TransformLine) (next : List TransformLine → Outcome)
-    → ((xs : List TransformLine) → IsOfFiles (next xs)) → IsOfFiles (filled files ls next)
-filled-of files [] next h = h []
-filled-of files (l ∷ ls) next h =
-    line-of files l (λ first. filled files ls (λ rest. next (first ∷ rest)))
-    (λ first. filled-of files ls (λ rest. next (first ∷ rest)) (λ rest. h (first ∷ rest)))
-
-understood-of : (files : List ℕ → Option (List ℕ)) (r : Reading) (next : ConfigLines → Outcome)
-    → ((xs : ConfigLines) → IsOfFiles (next xs)) → IsOfFiles (understood r (λ ls. lines_filled files ls next))
-understood-of files (Good lines) next h =
-    filled-of files lines.transforms (λ ts. next (with_transforms ts lines))
-    (λ ts. h (with_transforms ts lines))
-understood-of files (Bad n k) next h = tt
+-- an outcome of `serve`
+abbrev IsOfServe : Outcome → Type 0
+IsOfServe Usage = ⊥
+IsOfServe (Text text) = ⊥
+IsOfServe (Report lines bytes) = ⊥
+IsOfServe (Summary numbers) = ⊥
+IsOfServe _ = ⊤
 
 worked-of : (command : Command) (lines : ConfigLines) (bytes : List ℕ)
     → IsOfFiles (worked command lines bytes)
@@ -71,20 +106,28 @@ worked-of Replay lines bytes = tt
 performed-of : (command : Command) (files : List ℕ → Option (List ℕ)) (config input : List ℕ)
     → IsOfFiles (performed command files config input)
 performed-of command files config input =
-    let next : ConfigLines → Outcome =
-    λ lines. opened (files input) most_input input (worked command lines) in
-    opened-of (files config) most_config config
-    (λ bytes. understood (setup_of bytes) (λ ls. lines_filled files ls next))
-    (λ bytes. understood-of files (setup_of bytes) next
-    (λ lines. opened-of (files input) most_input input (worked command lines) (worked-of command lines)))
+    performed-by IsOfFiles (λ name. tt) (λ name. tt) (λ n k. tt) command
+    (worked-of command) files config input
+
+served-of : (files : List ℕ → Option (List ℕ)) (config : List ℕ)
+    → IsOfServe (set_up files config (λ lines. Serving lines))
+served-of files config =
+    set-up-of IsOfServe (λ name. tt) (λ name. tt) (λ n k. tt) files config (λ lines. Serving lines)
+    (λ lines. tt)
 
 not-usage-of : (o : Outcome) → IsOfFiles o → o ≢ Usage
 not-usage-of o of is = subst IsOfFiles is of
+
+not-usage-served : (o : Outcome) → IsOfServe o → o ≢ Usage
+not-usage-served o of is = subst IsOfServe is of
 
 task-command : (shelf : ShelfSeen) (task : Task) → outcome_of shelf (Some task) ≢ Usage
 task-command shelf (Over command config input) =
     not-usage-of (performed command shelf.file config input) (performed-of command shelf.file config input)
 task-command shelf (Make numbers) = λ is. cc
+task-command shelf (Serve words) =
+    not-usage-served (set_up shelf.file words.config (λ lines. Serving lines))
+    (served-of shelf.file words.config)
 
 -- words that ask for a task are of a command
 pub asked_command : (shelf : ShelfSeen) (asked : Option Task)
@@ -105,10 +148,61 @@ some-whole IsIt old new h = inr (
   },
 )
 
+-- all that was taken of the text of an outcome is a front of it
+text-some : (o : Outcome) (old new : SinkSeen) → TookText o old new → TookSome (IsTextOf o) old new
+text-some (Serving lines) old new h = inl h
+text-some Usage old new h = some-whole (IsTextOf Usage) old new h
+text-some (BadLine n k) old new h = some-whole (IsTextOf (BadLine n k)) old new h
+text-some (Missing name) old new h = some-whole (IsTextOf (Missing name)) old new h
+text-some (Long name) old new h = some-whole (IsTextOf (Long name)) old new h
+text-some (Text text) old new h = some-whole (IsTextOf (Text text)) old new h
+text-some (Report lines bytes) old new h = some-whole (IsTextOf (Report lines bytes)) old new h
+text-some (Summary numbers) old new h = some-whole (IsTextOf (Summary numbers)) old new h
+
 -- what out took with an answer, it took with the status of it
-pub takes_took : (o : Outcome) (answer : Answer) (old new : SinkSeen) → TookAt answer old new o
+takes_took : (o : Outcome) (answer : Answer) (old new : SinkSeen) → TookAt answer old new o
     → TakesAt o (status_of answer) old new
-takes_took o answer old new h = grind (arith, some-whole (IsTextOf o) old new)
+takes_took o a.Done old new h = record { some = text-some o old new h; whole = λ is. h }
+takes_took o a.CannotWrite old new h = record { some = h; whole = λ is. absurd (omega (arith, is)) }
+takes_took o a.OutOfMemory old new h = record { some = h; whole = λ is. absurd (omega (arith, is)) }
+takes_took o a.Usage old new h = record { some = inl h; whole = λ is. absurd (omega (arith, is)) }
+takes_took o (a.BadLine f) old new h = record { some = inl h; whole = λ is. absurd (omega (arith, is)) }
+takes_took o (a.BadRecording offset) old new h = record {
+  some = inl h;
+  whole = λ is. absurd
+      (omega (arith, is));
+}
+takes_took o (a.CannotRead f) old new h = record { some = inl h; whole = λ is. absurd (omega (arith, is)) }
+takes_took o (a.TooLong f) old new h = record { some = inl h; whole = λ is. absurd (omega (arith, is)) }
+takes_took o a.Network old new h = record { some = inl h; whole = λ is. absurd (omega (arith, is)) }
+
+-- a status with which something may be written is none of the others
+loud : (n : ℕ) → (n ≡ done) ⊎ (n ≡ cannot_write) ⊎ (n ≡ out_of_memory) → IsQuiet n → ⊥
+loud n one quiet = grind arith
+
+quiet-of : (answer : Answer) (P : Type 0) → OnQuiet answer P → IsQuiet (status_of answer) → P
+quiet-of a.Done P h quiet = absurd (loud done (inl refl) quiet)
+quiet-of a.CannotWrite P h quiet = absurd (loud cannot_write (inr (inl refl)) quiet)
+quiet-of a.OutOfMemory P h quiet = absurd (loud out_of_memory (inr (inr refl)) quiet)
+quiet-of a.Usage P h quiet = h
+quiet-of (a.BadLine f) P h quiet = h
+quiet-of (a.BadRecording offset) P h quiet = h
+quiet-of (a.CannotRead f) P h quiet = h
+quiet-of (a.TooLong f) P h quiet = h
+quiet-of a.Network P h quiet = h
+
+-- what out took of a task
+pub takes_is : (tells out_tells : Bool) (shelf shelf' : ShelfSeen) (out out' : SinkSeen)
+    (asked : Option Task) (task : Task) (answer : Answer) (js : List Log) (n : ℕ) → asked ≡ Some task
+    → n ≡ status_of answer → IsPerformed task tells out_tells shelf shelf' out out' answer js
+    → out_tells ≡ true → Takes (is_told tells asked) (outcome_of shelf asked) n out out'
+takes_is tells out_tells shelf shelf' out out' asked task answer js n is same p out_tell =
+    subst (λ t. Takes (is_told tells t) (outcome_of shelf t) n out out') (sym is)
+    (subst (λ m. Takes (is_told tells (Some task)) (outcome_of shelf (Some task)) m out out') (sym same)
+    (record {
+      at = λ told. takes_took (outcome_of shelf (Some task)) answer out out' (p.took told out_tell);
+      quiet = quiet-of answer (TookNothing out out') (p.quiet out_tell);
+    }))
 
 -- ---- the status
 
@@ -122,6 +216,7 @@ ends-of-files config input a.Done (Long name) of h = absurd h
 ends-of-files config input a.Done (Text text) of h = inl refl
 ends-of-files config input a.Done (Report lines bytes) of h = inl (inl refl, h)
 ends-of-files config input a.Done (Summary numbers) of h = absurd of
+ends-of-files config input a.Done (Serving lines) of h = absurd of
 ends-of-files config input a.Usage o of h = absurd (subst IsOfFiles h of)
 ends-of-files config input (a.BadLine f) o of h = subst (λ x. EndsAt x bad_line) (sym h) (inl refl)
 ends-of-files config input (a.BadRecording offset) Usage of h = absurd of
@@ -132,6 +227,7 @@ ends-of-files config input (a.BadRecording offset) (Text text) of h = absurd h
 ends-of-files config input (a.BadRecording offset) (Report lines bytes) of h = inr
     (inl (refl, λ r. h.refused r.0 r.1))
 ends-of-files config input (a.BadRecording offset) (Summary numbers) of h = absurd of
+ends-of-files config input (a.BadRecording offset) (Serving lines) of h = absurd of
 ends-of-files config input (a.CannotRead f) Usage of h = absurd of
 ends-of-files config input (a.CannotRead f) (BadLine n k) of h = inr (inl refl)
 ends-of-files config input (a.CannotRead f) (Missing name) of h = inl refl
@@ -139,6 +235,7 @@ ends-of-files config input (a.CannotRead f) (Long name) of h = inr (inl refl)
 ends-of-files config input (a.CannotRead f) (Text text) of h = inr (inl refl)
 ends-of-files config input (a.CannotRead f) (Report lines bytes) of h = inr (inr (inl refl))
 ends-of-files config input (a.CannotRead f) (Summary numbers) of h = absurd of
+ends-of-files config input (a.CannotRead f) (Serving lines) of h = absurd of
 ends-of-files config input a.CannotWrite Usage of h = absurd of
 ends-of-files config input a.CannotWrite (BadLine n k) of h = absurd h
 ends-of-files config input a.CannotWrite (Missing name) of h = absurd h
@@ -146,6 +243,7 @@ ends-of-files config input a.CannotWrite (Long name) of h = absurd h
 ends-of-files config input a.CannotWrite (Text text) of h = inr (inr (inl refl))
 ends-of-files config input a.CannotWrite (Report lines bytes) of h = inl (inr refl, h)
 ends-of-files config input a.CannotWrite (Summary numbers) of h = absurd of
+ends-of-files config input a.CannotWrite (Serving lines) of h = absurd of
 ends-of-files config input a.OutOfMemory Usage of h = absurd of
 ends-of-files config input a.OutOfMemory (BadLine n k) of h = inr (inr refl)
 ends-of-files config input a.OutOfMemory (Missing name) of h = inr refl
@@ -153,7 +251,10 @@ ends-of-files config input a.OutOfMemory (Long name) of h = inr (inr refl)
 ends-of-files config input a.OutOfMemory (Text text) of h = inr (inr (inr refl))
 ends-of-files config input a.OutOfMemory (Report lines bytes) of h = inr (inr (inr refl))
 ends-of-files config input a.OutOfMemory (Summary numbers) of h = absurd of
+ends-of-files config input a.OutOfMemory (Serving lines) of h = absurd of
 ends-of-files config input (a.TooLong f) o of h = subst (λ x. EndsAt x too_long) (sym h) (inl refl)
+ends-of-files config input a.Network (Serving lines) of h = absurd of
+ends-of-files config input a.Network o of h = absurd h
 
 -- and at a summary, where no file is named
 ends-of-made : (numbers : GenerateTask) (answer : Answer) → ComesAt [] [] answer (Summary numbers)
@@ -168,6 +269,30 @@ ends-of-made numbers a.CannotWrite h none = inr (inl refl)
 ends-of-made numbers a.OutOfMemory h none = inr (inr refl)
 ends-of-made numbers (a.TooLong f) h none = absurd
     (let wrong : Summary numbers ≡ Long (file_name [] [] f) = h in cc)
+ends-of-made numbers a.Network h none = absurd h
+
+-- and at an outcome of `serve`
+ends-of-served : (config : List ℕ) (answer : Answer) (o : Outcome) → IsOfServe o → ComesAt config [] answer o
+    → EndsAt o (status_of answer)
+ends-of-served config a.Usage o of h = absurd (subst IsOfServe h of)
+ends-of-served config (a.BadLine f) o of h = subst (λ x. EndsAt x bad_line) (sym h) (inl refl)
+ends-of-served config (a.TooLong f) o of h = subst (λ x. EndsAt x too_long) (sym h) (inl refl)
+ends-of-served config answer Usage of h = absurd of
+ends-of-served config answer (Text text) of h = absurd of
+ends-of-served config answer (Report lines bytes) of h = absurd of
+ends-of-served config answer (Summary numbers) of h = absurd of
+ends-of-served config a.Done (Serving lines) of h = inl refl
+ends-of-served config a.Done o of h = absurd h
+ends-of-served config (a.BadRecording offset) o of h = absurd h
+ends-of-served config (a.CannotRead f) (Missing name) of h = inl refl
+ends-of-served config (a.CannotRead f) (Serving lines) of h = inr (inr (inl refl))
+ends-of-served config (a.CannotRead f) o of h = inr (inl refl)
+ends-of-served config a.CannotWrite o of h = absurd h
+ends-of-served config a.OutOfMemory (Missing name) of h = inr refl
+ends-of-served config a.OutOfMemory (Serving lines) of h = inr (inr (inr refl))
+ends-of-served config a.OutOfMemory o of h = inr (inr refl)
+ends-of-served config a.Network (Serving lines) of h = inr (inl refl)
+ends-of-served config a.Network o of h = absurd h
 
 -- by the task
 ends-at : (shelf : ShelfSeen) (task : Task) (answer : Answer)
@@ -177,6 +302,9 @@ ends-at shelf (Over command config input) answer h named =
     ends-of-files config input answer (performed command shelf.file config input)
     (performed-of command shelf.file config input) h
 ends-at shelf (Make numbers) answer h named = ends-of-made numbers answer h named
+ends-at shelf (Serve words) answer h named =
+    ends-of-served words.config answer (set_up shelf.file words.config (λ lines. Serving lines))
+    (served-of shelf.file words.config) h
 
 -- each answer has a status, and that of a task is not that of usage
 is-status : (answer : Answer) → IsStatus (status_of answer)
@@ -187,7 +315,8 @@ is-status (a.BadRecording offset) = inr (inr (inr (inr (inr (inl refl)))))
 is-status (a.CannotRead f) = inr (inr (inr (inr (inr (inr (inl refl))))))
 is-status a.CannotWrite = inr (inl refl)
 is-status a.OutOfMemory = inr (inr (inl refl))
-is-status (a.TooLong f) = inr (inr (inr (inr (inr (inr (inr refl))))))
+is-status a.Network = inr (inr (inr (inr (inr (inr (inr (inl refl)))))))
+is-status (a.TooLong f) = inr (inr (inr (inr (inr (inr (inr (inr refl)))))))
 
 not-usage : (answer : Answer) (shelf shelf' : ShelfSeen) (out out' : SinkSeen)
     → IsCausedBy answer shelf shelf' out out' → status_of answer ≢ usage
@@ -199,19 +328,18 @@ not-usage (a.CannotRead f) shelf shelf' out out' h = λ is. absurd (omega (arith
 not-usage a.CannotWrite shelf shelf' out out' h = λ is. absurd (omega (arith, is))
 not-usage a.OutOfMemory shelf shelf' out out' h = λ is. absurd (omega (arith, is))
 not-usage (a.TooLong f) shelf shelf' out out' h = λ is. absurd (omega (arith, is))
+not-usage a.Network shelf shelf' out out' h = λ is. absurd (omega (arith, is))
 
 -- the status of what a task came to
-pub status_is : (tells out_tells : Bool) (shelf shelf' : ShelfSeen) (out out' : SinkSeen)
+pub status_is : (take_memory tells out_tells : Bool) (shelf shelf' : ShelfSeen) (out out' : SinkSeen)
     (asked : Option Task) (task : Task) (answer : Answer) (js : List Log) (n : ℕ) → asked ≡ Some task
     → n ≡ status_of answer → IsPerformed task tells out_tells shelf shelf' out out' answer js
-    → IsStatusOf tells shelf asked n
-status_is tells out_tells shelf shelf' out out' asked task answer js n is same p =
-    subst (λ t. IsStatusOf tells shelf t n) (sym is)
-    (subst (IsStatusOf tells shelf (Some task)) (sym same) (record {
+    → IsStatusOf take_memory tells shelf asked n
+status_is take_memory tells out_tells shelf shelf' out out' asked task answer js n is same p =
+    subst (λ t. IsStatusOf take_memory tells shelf t n) (sym is)
+    (subst (IsStatusOf take_memory tells shelf (Some task)) (sym same) (record {
       known = is-status answer;
-      of_none = (
-        λ u. absurd (not-usage answer shelf shelf' out out' p.cause u),
-        λ none. absurd (let wrong : Some task ≡ None = none in cc),
-      );
+      usage_of = λ u. absurd (not-usage answer shelf shelf' out out' p.cause u);
+      of_none = λ none. absurd (let wrong : Some task ≡ None = none in cc);
       at = λ told. ends-at shelf task answer (p.comes told) p.of_files;
     }))

@@ -4,7 +4,7 @@ use Rattle.std.proofs.Common.{append_assoc, arith, sym, ap, ◌∙◌, length, s
 use Rattle.std.specs.Prelude.{IfErr, IsSomeAnd}
 use mathlib.Core.Path.{fun_ext}
 use Rattle.ts_config.specs.Setup.{ConfigLines}
-use Rattle.ts_config.specs.Value.{Good, setup_of}
+use Rattle.ts_config.specs.Value.{Good, config_of}
 use Rattle.ts_config.specs.declared.setup.TransformLine.{TransformLine}
 use Rattle.ts_link.specs.Seen.{ShelfSeen}
 use Rattle.ts_proxy.specs.declared.answer.Answer.{Answer}
@@ -78,24 +78,25 @@ stopped-comes files all left left' found line (a.CannotRead f) before is names =
 stopped-comes files all left left' found line a.CannotWrite before is names = tt
 stopped-comes files all left left' found line a.OutOfMemory before is names = tt
 stopped-comes files all left left' found line (a.TooLong f) before is names = tt
+stopped-comes files all left left' found line a.Network before is names = tt
 
 -- the configuration was read, and the work on its lines comes to a file
 reaches-read : (shelf : ShelfSeen) (files : List ℕ → Option (List ℕ)) (config bytes : List ℕ)
     (lines : ConfigLines) (f : NamedFile) → shelf.file config ≡ Some bytes → length bytes ≤ most_config
-    → setup_of bytes ≡ Good lines → files ≡ shelf.file → ReachesFile files lines.transforms f
+    → config_of bytes ≡ Good lines → files ≡ shelf.file → ReachesFile files lines.transforms f
     → IsReadBy shelf config f
 reaches-read shelf files config bytes lines file.Config there within reads same comes = tt
 reaches-read shelf files config bytes lines file.Input there within reads same comes = absurd comes.names
 reaches-read shelf files config bytes lines (file.Appended name) there within reads same comes =
     let reached : ReachesFile shelf.file lines.transforms (file.Appended name) =
     subst (λ fs. ReachesFile fs lines.transforms (file.Appended name)) same comes in
-    subst (λ o. IsSomeAnd o (λ bs. (length bs ≤ most_config) × (ls : ConfigLines) × (setup_of bs ≡ Good ls)
+    subst (λ o. IsSomeAnd o (λ bs. (length bs ≤ most_config) × (ls : ConfigLines) × (config_of bs ≡ Good ls)
     × ReachesFile shelf.file ls.transforms (file.Appended name))) (sym there) (within, lines, reads, reached)
 
 -- so the file of a failed read is one that is read
 pub comes-read : {X : Type 0} (shelf : ShelfSeen) (files : List ℕ → Option (List ℕ)) (config bytes : List ℕ)
     (lines : ConfigLines) (result : Result X Answer) → shelf.file config ≡ Some bytes
-    → length bytes ≤ most_config → setup_of bytes ≡ Good lines → files ≡ shelf.file
+    → length bytes ≤ most_config → config_of bytes ≡ Good lines → files ≡ shelf.file
     → IfErr result (λ answer. OnCannotRead answer (ReachesFile files lines.transforms))
     → IfErr result (λ answer. OnCannotRead answer (IsReadBy shelf config))
 comes-read shelf files config bytes lines (Ok x) there within reads same named = tt
@@ -108,6 +109,7 @@ comes-read shelf files config bytes lines (Err (a.CannotRead f)) there within re
 comes-read shelf files config bytes lines (Err a.CannotWrite) there within reads same named = tt
 comes-read shelf files config bytes lines (Err a.OutOfMemory) there within reads same named = tt
 comes-read shelf files config bytes lines (Err (a.TooLong f)) there within reads same named = tt
+comes-read shelf files config bytes lines (Err a.Network) there within reads same named = tt
 
 -- what holds of all lines holds of the first and of the others
 pub all-first : (P : TransformLine → Type 0) (ls rest : List TransformLine) (l : TransformLine)

@@ -10,8 +10,7 @@ use Rattle.ts_config.proofs.TextParts.{both, utf8-cons}
 use Rattle.ts_config.specs.Bytes.{letter_a}
 use Rattle.ts_config.specs.Reading.{is_text_byte}
 use Rattle.ts_config.specs.Setup.{ConfigLines, transforms_alone}
-use Rattle.ts_config.specs.Table.{all_names}
-use Rattle.ts_config.specs.Value.{Good, meaning_of, meaning_of_words, next_lines, read_lines, setup_of}
+use Rattle.ts_config.specs.Value.{Good, meaning_of, meaning_of_words, next_lines, read_lines, config_of}
 use Rattle.ts_config.specs.Value.{words_in}
 use Rattle.ts_config.specs.declared.setup.ConfigKind.{ConfigKind}
 use Rattle.ts_config.specs.declared.setup.ConfigKind.TheVariants as k
@@ -32,46 +31,59 @@ ascii-utf8 (b ∷ bs) is =
 
 -- a line of ASCII without control characters means what its words mean
 means : (line : List ℕ) → list_all (λ b. nat_lt b 128) line ≡ true → list_all is_text_byte line ≡ true
-    → meaning_of all_names line ≡ meaning_of_words all_names (words_in line)
+    → meaning_of line ≡ meaning_of_words (words_in line)
 means line ascii bytes =
-    ap (λ u. if u && list_all is_text_byte line then meaning_of_words all_names (words_in line)
-    else Err k.Text) (is_utf8-from_IsUtf8 line (ascii-utf8 line ascii))
-    ∙ ap (λ b. if b then meaning_of_words all_names (words_in line) else Err k.Text) bytes
+    ap (λ u. if u && list_all is_text_byte line then meaning_of_words (words_in line) else Err k.Text)
+    (is_utf8-from_IsUtf8 line (ascii-utf8 line ascii))
+    ∙ ap (λ b. if b then meaning_of_words (words_in line) else Err k.Text) bytes
 
 -- a line that means this one, and the lines behind it
 line_then : (line : List ℕ) (lines : List (List ℕ)) (n : ℕ) (so_far : ConfigLines)
-    (m : Result LineMeaning ConfigKind) → meaning_of all_names line ≡ m
-    → read_lines all_names (line ∷ lines) n so_far
-    ≡ next_lines m (n + 1) so_far (read_lines all_names lines (n + 1))
+    (m : Result LineMeaning ConfigKind) → meaning_of line ≡ m
+    → read_lines (line ∷ lines) n so_far ≡ next_lines m (n + 1) so_far (read_lines lines (n + 1))
 line_then line lines n so_far m is =
-    ap (λ x. next_lines x (n + 1) so_far (read_lines all_names lines (n + 1))) is
+    ap (λ x. next_lines x (n + 1) so_far (read_lines lines (n + 1))) is
 
 -- ---- the lines
 
-null_line : meaning_of all_names (codes "null_transform.so") ≡ Ok (Transform t.Null)
+null_line : meaning_of (codes "null_transform.so") ≡ Ok (Transform t.Null)
 null_line = means (codes "null_transform.so") refl refl
 
-map_line : meaning_of all_names (codes "map.so a A") ≡ Ok (Transform (t.Map letter_a capital_a))
+map_line : meaning_of (codes "map.so a A") ≡ Ok (Transform (t.Map letter_a capital_a))
 map_line = means (codes "map.so a A") refl refl
 
-drop_line : meaning_of all_names (codes "drop.so q") ≡ Ok (Transform (t.Drop letter_q))
+drop_line : meaning_of (codes "drop.so q") ≡ Ok (Transform (t.Drop letter_q))
 drop_line = means (codes "drop.so q") refl refl
 
-bnull_line : meaning_of all_names (codes "bnull_transform.so") ≡ Ok (Transform t.Bnull)
+bnull_line : meaning_of (codes "bnull_transform.so") ≡ Ok (Transform t.Bnull)
 bnull_line = means (codes "bnull_transform.so") refl refl
 
-prepend_line : meaning_of all_names (codes "prepend.so <") ≡ Ok (Transform (t.Prepend (codes "<")))
+prepend_line : meaning_of (codes "prepend.so <") ≡ Ok (Transform (t.Prepend (codes "<")))
 prepend_line = means (codes "prepend.so <") refl refl
 
-pub fixed_reading : setup_of fixed_config ≡ Good fixed_lines
+-- the lines from each on
+abbrev from_prepend : List (List ℕ)
+from_prepend = codes "prepend.so <" ∷ []
+
+abbrev from_bnull : List (List ℕ)
+from_bnull = codes "bnull_transform.so" ∷ from_prepend
+
+abbrev from_drop : List (List ℕ)
+from_drop = codes "drop.so q" ∷ from_bnull
+
+abbrev from_map : List (List ℕ)
+from_map = codes "map.so a A" ∷ from_drop
+
+pub fixed_reading : config_of fixed_config ≡ Good fixed_lines
 fixed_reading =
-    line_then (codes "null_transform.so") (codes "map.so a A" ∷ codes "drop.so q" ∷ codes "bnull_transform.so" ∷ codes "prepend.so <" ∷ []) 0 (transforms_alone [])
-    (Ok (Transform t.Null)) null_line
-    ∙ line_then (codes "map.so a A") (codes "drop.so q" ∷ codes "bnull_transform.so" ∷ codes "prepend.so <" ∷ []) 1 (transforms_alone (t.Null ∷ []))
+    line_then (codes "null_transform.so") from_map 0 (transforms_alone []) (Ok (Transform t.Null)) null_line
+    ∙ line_then (codes "map.so a A") from_drop 1 (transforms_alone (t.Null ∷ []))
     (Ok (Transform (t.Map letter_a capital_a))) map_line
-    ∙ line_then (codes "drop.so q") (codes "bnull_transform.so" ∷ codes "prepend.so <" ∷ []) 2 (transforms_alone (t.Null ∷ t.Map letter_a capital_a ∷ []))
+    ∙ line_then (codes "drop.so q") from_bnull 2 (transforms_alone (t.Null ∷ t.Map letter_a capital_a ∷ []))
     (Ok (Transform (t.Drop letter_q))) drop_line
-    ∙ line_then (codes "bnull_transform.so") (codes "prepend.so <" ∷ []) 3 (transforms_alone (t.Null ∷ t.Map letter_a capital_a ∷ t.Drop letter_q ∷ []))
+    ∙ line_then (codes "bnull_transform.so") from_prepend 3
+    (transforms_alone (t.Null ∷ t.Map letter_a capital_a ∷ t.Drop letter_q ∷ []))
     (Ok (Transform t.Bnull)) bnull_line
-    ∙ line_then (codes "prepend.so <") [] 4 (transforms_alone (t.Null ∷ t.Map letter_a capital_a ∷ t.Drop letter_q ∷ t.Bnull ∷ []))
+    ∙ line_then (codes "prepend.so <") [] 4
+    (transforms_alone (t.Null ∷ t.Map letter_a capital_a ∷ t.Drop letter_q ∷ t.Bnull ∷ []))
     (Ok (Transform (t.Prepend (codes "<")))) prepend_line

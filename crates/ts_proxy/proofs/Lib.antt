@@ -8,6 +8,7 @@ pub mod Opening
 pub mod Parts
 pub mod Performing
 pub mod Serial
+pub mod Serving
 pub mod Staying
 pub mod Summing
 pub mod Words

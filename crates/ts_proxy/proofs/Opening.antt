@@ -53,6 +53,7 @@ writing-comes config input text (a.CannotRead n) old new h = absurd h
 writing-comes config input text a.CannotWrite old new h = tt
 writing-comes config input text a.OutOfMemory old new h = tt
 writing-comes config input text (a.TooLong n) old new h = absurd h
+writing-comes config input text a.Network old new h = absurd h
 
 -- a command whose files were read does its part
 pub performed-read : (command : Command) (files files' : List ℕ → Option (List ℕ))

@@ -1,6 +1,7 @@
 -- From the parts of a task's work to what the task came to.
-use Rattle.std.proofs.Common.{◌≡◌, ℕ, Bool, true, List, [], inl, inr, refl, sym}
+use Rattle.std.proofs.Common.{◌≡◌, ◌∙◌, ℕ, Bool, true, List, [], ◌∷◌, Option, None, Some, ap, inl, inr, refl, sym}
 use Rattle.std.proofs.Common.{subst}
+use Rattle.std.specs.List.{AllByRecursion}
 use Rattle.std.specs.Prelude.{⊤}
 use Rattle.ts_config.specs.Setup.{ConfigLines}
 use Rattle.ts_journal.specs.Log.{Log}
@@ -10,16 +11,18 @@ use Rattle.ts_proxy.specs.declared.answer.Answer.{Answer}
 use Rattle.ts_proxy.specs.declared.answer.Answer.TheVariants as a
 use Rattle.ts_proxy.specs.declared.answer.NamedFile.{NamedFile}
 use Rattle.ts_proxy.specs.declared.command.GenerateTask.{GenerateTask}
-use Rattle.ts_proxy.specs.Answers.{ComesAt, HasOutput, IsCausedBy, IsOfReading, IsOfRunning, IsOfWork, IsReadBy}
-use Rattle.ts_proxy.specs.Answers.{IsTextOf, OnCannotRead, OnQuiet, TookAt}
-use Rattle.ts_proxy.specs.Outcome.{Outcome, Report, Summary, performed, worked}
+use Rattle.ts_proxy.specs.Answers.{ComesAt, HasJob, HasOutput, IsCausedBy, IsOfReading, IsOfRunning, IsOfWork}
+use Rattle.ts_proxy.specs.Answers.{IsReadBy, IsTextOf, OnCannotRead, OnNetwork, OnQuiet, TookAt, TookText}
+use Rattle.ts_proxy.specs.Outcome.{Outcome, Usage, BadLine, Missing, Long, Text, Report, Summary, Serving}
+use Rattle.ts_proxy.specs.Outcome.{performed, worked}
 use Rattle.ts_proxy.specs.Performed.{AreJournalsAt, AreJournalsOf, AreOfThreads, IsCarriedOut, IsPerformed}
-use Rattle.ts_proxy.specs.Performed.{IsReplayOn, IsRunTo, LeavesJournals, LeavesJournalsAt}
+use Rattle.ts_proxy.specs.Performed.{IsReplayIn, IsRunTo, LeavesJournals, LeavesJournalsAt}
 use Rattle.ts_proxy.specs.Summary.{fixed_lines, summary_of, summary_text, txns_of}
-use Rattle.ts_proxy.specs.Took.{TookAll, TookFront, TookNothing}
+use Rattle.ts_proxy.specs.Took.{TookAll, TookFront, TookNothing, TookWhole}
 use Rattle.ts_proxy.specs.Words.{Command, Over, Make}
-use Rattle.ts_record.specs.Grammar.{TxnPieces}
+use Rattle.ts_record.specs.Grammar.{IsTxn, MayLeave, TxnPieces}
 use Rattle.ts_record.specs.Report.{report_text}
+use Rattle.ts_replay.specs.Recorded.{AllTakeSome, TakesSome}
 use Rattle.ts_replay.specs.Replayed.{IsReplayed}
 use Rattle.ts_replay.specs.Reports.{AreBlocksOn}
 use Rattle.ts_replay.specs.declared.outcomes.Replayed.{Replayed}
@@ -35,6 +38,7 @@ work-names (a.CannotRead f) out out' P h = absurd h
 work-names a.CannotWrite out out' P h = tt
 work-names a.OutOfMemory out out' P h = tt
 work-names (a.TooLong f) out out' P h = tt
+work-names a.Network out out' P h = tt
 
 -- and has its cause in out
 work-caused : (answer : Answer) (shelf shelf' : ShelfSeen) (out out' : SinkSeen) → IsOfWork answer out out'
@@ -47,6 +51,32 @@ work-caused (a.CannotRead f) shelf shelf' out out' h = absurd h
 work-caused a.CannotWrite shelf shelf' out out' h = h
 work-caused a.OutOfMemory shelf shelf' out out' h = tt
 work-caused (a.TooLong f) shelf shelf' out out' h = absurd h
+work-caused a.Network shelf shelf' out out' h = absurd h
+
+-- nor does a net
+work-nets : (answer : Answer) (out out' : SinkSeen) (P : Type 0) → IsOfWork answer out out'
+    → OnNetwork answer P
+work-nets a.Done out out' P h = tt
+work-nets a.Usage out out' P h = tt
+work-nets (a.BadLine f) out out' P h = tt
+work-nets (a.BadRecording offset) out out' P h = tt
+work-nets (a.CannotRead f) out out' P h = tt
+work-nets a.CannotWrite out out' P h = tt
+work-nets a.OutOfMemory out out' P h = tt
+work-nets (a.TooLong f) out out' P h = tt
+work-nets a.Network out out' P h = absurd h
+
+reading-nets : (answer : Answer) (shelf shelf' : ShelfSeen) (P : Type 0) → IsOfReading answer shelf shelf'
+    → OnNetwork answer P
+reading-nets a.Done shelf shelf' P h = tt
+reading-nets a.Usage shelf shelf' P h = tt
+reading-nets (a.BadLine f) shelf shelf' P h = tt
+reading-nets (a.BadRecording offset) shelf shelf' P h = tt
+reading-nets (a.CannotRead f) shelf shelf' P h = tt
+reading-nets a.CannotWrite shelf shelf' P h = tt
+reading-nets a.OutOfMemory shelf shelf' P h = tt
+reading-nets (a.TooLong f) shelf shelf' P h = tt
+reading-nets a.Network shelf shelf' P h = absurd h
 
 -- ---- a command over files
 
@@ -66,7 +96,9 @@ performed-worked command config input tells out_tells shelf shelf' out out' answ
       took = λ tell out_tell. subst (TookAt answer out out') (sym (told tell command)) (work.took out_tell);
       quiet = work.quiet;
       cause = work-caused answer shelf shelf' out out' work.cause;
+      of_net = work-nets answer out out' ⊥ work.cause;
       unread = tt;
+      unwritten = tt;
       journals = work.journals;
       each = λ tell. subst (λ o. LeavesJournalsAt answer o js) (sym (told tell command)) work.each;
     }
@@ -81,6 +113,7 @@ reading-caused (a.CannotRead f) shelf shelf' out h = h
 reading-caused a.CannotWrite shelf shelf' out h = absurd h
 reading-caused a.OutOfMemory shelf shelf' out h = tt
 reading-caused (a.TooLong f) shelf shelf' out h = h
+reading-caused a.Network shelf shelf' out h = absurd h
 
 reading-took : (answer : Answer) (shelf shelf' : ShelfSeen) (out : SinkSeen) (o : Outcome)
     → IsOfReading answer shelf shelf' → TookAt answer out out o
@@ -92,6 +125,7 @@ reading-took (a.CannotRead f) shelf shelf' out o h = refl
 reading-took a.CannotWrite shelf shelf' out o h = absurd h
 reading-took a.OutOfMemory shelf shelf' out o h = inl refl
 reading-took (a.TooLong f) shelf shelf' out o h = refl
+reading-took a.Network shelf shelf' out o h = absurd h
 
 -- what holds at all holds of an answer that comes before anything is written
 quiet-by : (answer : Answer) (P : Type 0) → P → OnQuiet answer P
@@ -103,6 +137,7 @@ quiet-by (a.CannotRead f) P h = h
 quiet-by a.CannotWrite P h = tt
 quiet-by a.OutOfMemory P h = tt
 quiet-by (a.TooLong f) P h = h
+quiet-by a.Network P h = h
 
 reading-leaves : (AreOurs : List Log → Type 0) (answer : Answer) (shelf shelf' : ShelfSeen)
     → IsOfReading answer shelf shelf' → LeavesJournals AreOurs answer []
@@ -114,6 +149,7 @@ reading-leaves AreOurs (a.CannotRead f) shelf shelf' h = refl
 reading-leaves AreOurs a.CannotWrite shelf shelf' h = refl
 reading-leaves AreOurs a.OutOfMemory shelf shelf' h = refl
 reading-leaves AreOurs (a.TooLong f) shelf shelf' h = refl
+reading-leaves AreOurs a.Network shelf shelf' h = refl
 
 reading-leaves-at : (answer : Answer) (shelf shelf' : ShelfSeen) (o : Outcome)
     → IsOfReading answer shelf shelf' → LeavesJournalsAt answer o []
@@ -125,6 +161,7 @@ reading-leaves-at (a.CannotRead f) shelf shelf' o h = tt
 reading-leaves-at a.CannotWrite shelf shelf' o h = tt
 reading-leaves-at a.OutOfMemory shelf shelf' o h = tt
 reading-leaves-at (a.TooLong f) shelf shelf' o h = tt
+reading-leaves-at a.Network shelf shelf' o h = tt
 
 -- whatever file an answer names
 names-any : (answer : Answer) → OnCannotRead answer (λ f. ⊤)
@@ -136,6 +173,7 @@ names-any (a.CannotRead f) = tt
 names-any a.CannotWrite = tt
 names-any a.OutOfMemory = tt
 names-any (a.TooLong f) = tt
+names-any a.Network = tt
 
 -- the files of a command were not read
 pub performed-unread : (command : Command) (config input : List ℕ) (tells out_tells : Bool)
@@ -153,7 +191,9 @@ performed-unread command config input tells out_tells shelf shelf' out answer js
       took = λ tell out_tell. reading-took answer shelf shelf' out o cause;
       quiet = λ out_tell. quiet-by answer (TookNothing out out) refl;
       cause = reading-caused answer shelf shelf' out cause;
+      of_net = reading-nets answer shelf shelf' ⊥ cause;
       unread = tt;
+      unwritten = tt;
       journals = subst (LeavesJournals (AreJournalsOf (Over command config input)) answer) (sym none)
           (reading-leaves (AreJournalsOf (Over command config input)) answer shelf shelf' cause);
       each = λ tell. subst (LeavesJournalsAt answer o) (sym none) (reading-leaves-at answer shelf shelf' o
@@ -163,7 +203,8 @@ performed-unread command config input tells out_tells shelf shelf' out answer js
 -- ---- a command over numbers
 
 -- the recording of the numbers was run
-pub performed-made : (numbers : GenerateTask) (tells out_tells : Bool) (shelf : ShelfSeen) (out out' : SinkSeen)
+pub performed-made : (numbers : GenerateTask) (tells out_tells : Bool) (shelf : ShelfSeen)
+    (out out' : SinkSeen)
     (answer : Answer) (js : List Log)
     → IsCarriedOut AreOfThreads (Summary numbers) out_tells out out' answer js
     → IsPerformed (Make numbers) tells out_tells shelf shelf out out' answer js
@@ -174,20 +215,45 @@ performed-made numbers tells out_tells shelf out out' answer js work = record {
   took = λ tell out_tell. work.took out_tell;
   quiet = work.quiet;
   cause = work-caused answer shelf shelf out out' work.cause;
+  of_net = work-nets answer out out' ⊥ work.cause;
   unread = refl;
+  unwritten = tt;
   journals = work.journals;
   each = λ tell. work.each;
 }
 
 -- ---- the part that comes after reading
 
+-- a text that was taken whole is that of its outcome
+text-took : (o : Outcome) (old new : SinkSeen) → HasOutput o → TookWhole (IsTextOf o) old new
+    → TookText o old new
+text-took Usage old new output h = h
+text-took (BadLine n k) old new output h = h
+text-took (Missing name) old new output h = h
+text-took (Long name) old new output h = h
+text-took (Text text) old new output h = h
+text-took (Report lines bytes) old new output h = h
+text-took (Summary numbers) old new output h = h
+text-took (Serving lines) old new output h = absurd output
+
+-- it is a job
+output-job : (o : Outcome) → HasOutput o → HasJob o
+output-job Usage h = h
+output-job (BadLine n k) h = h
+output-job (Missing name) h = h
+output-job (Long name) h = h
+output-job (Text text) h = h
+output-job (Report lines bytes) h = h
+output-job (Summary numbers) h = h
+output-job (Serving lines) h = tt
+
 -- all of the text was written
 pub work-written : (AreOurs : List Log → Type 0) (o : Outcome) (text : List ℕ) (out_tells : Bool)
     (out out' : SinkSeen) (js : List Log) → HasOutput o → IsTextOf o text → AreOurs js → AreJournalsAt o js
     → (out_tells ≡ true → TookAll out out' text) → IsCarriedOut AreOurs o out_tells out out' a.Done js
 work-written AreOurs o text out_tells out out' js output is ours each told = record {
-  comes = λ config name. output;
-  took = λ tell. (text, is, told tell);
+  comes = λ config name. output-job o output;
+  took = λ tell. text-took o out out' output (text, is, told tell);
   quiet = λ tell. tt;
   cause = tt;
   journals = ours;
@@ -255,8 +321,20 @@ work-unrun lines bytes out_tells out a.CannotWrite js h none = absurd h
 work-unrun lines bytes out_tells out a.OutOfMemory js h none =
     work-lacking AreOfThreads (Report lines bytes) out_tells out js none
 work-unrun lines bytes out_tells out (a.TooLong f) js h none = absurd h
+work-unrun lines bytes out_tells out a.Network js h none = absurd h
 
 -- ---- what transactions were run to
+
+-- where a client leaves in a recording, it takes at least one byte before
+take_some : (version : ℕ) (leave : Option ℕ) → MayLeave version leave → TakesSome leave
+take_some version None may = tt
+take_some version (Some most) may = may.1
+
+pub all_take_some : (version : ℕ) (txns : List TxnPieces) → AllByRecursion (IsTxn version) txns
+    → AllTakeSome txns
+all_take_some version [] each = tt
+all_take_some version (t ∷ ts) each =
+    (take_some version t.leave each.0.leave, all_take_some version ts each.1)
 
 -- the blocks of those that were run
 blocks-on : (lines : ConfigLines) (txns : List TxnPieces) (r : Replayed) → IsReplayed lines txns r
@@ -264,21 +342,23 @@ blocks-on : (lines : ConfigLines) (txns : List TxnPieces) (r : Replayed) → IsR
 blocks-on lines txns r on = record { setup = on.setup; lines_are = on.lines_are; each = on.comes.blocks }
 
 -- those of a recording were run to the report on it
-pub run-to-report : (lines : ConfigLines) (bytes : List ℕ) (r : Replayed) (text : List ℕ)
-    → IsReplayOn lines bytes r → text ≡ report_text r.blocks.items
+pub run-to-report : (lines : ConfigLines) (bytes : List ℕ) (version : ℕ) (r : Replayed) (text : List ℕ)
+    → IsReplayIn lines bytes version r → text ≡ report_text version r.blocks.items
     → IsRunTo (Report lines bytes) text r.journals.items
-run-to-report lines bytes r text on is = record {
-  output = (on.txns, on.recording);
-  text_is = record {
-    txns = on.txns;
-    recording = on.recording;
-    blocks = r.blocks.items;
-    are = blocks-on lines on.txns r on.replayed;
-    text_is = is;
-  };
-  ours = on.replayed.comes.final;
-  each = (r, on, refl);
-}
+run-to-report lines bytes version r text ran is =
+    let on = ran.on in
+    record {
+      output = (on.contents, on.recording);
+      text_is = record {
+        contents = on.contents;
+        recording = on.recording;
+        blocks = r.blocks.items;
+        are = blocks-on lines on.contents.txns r on.replayed;
+        text_is = is ∙ ap (λ v. report_text v r.blocks.items) (sym ran.version_is);
+      };
+      ours = on.replayed.comes.final;
+      each = (r, on, refl);
+    }
 
 -- and those that numbers stand for to their summary
 pub run-to-summary : (numbers : GenerateTask) (r : Replayed) (text : List ℕ)

@@ -20,7 +20,8 @@ use Rattle.ts_journal.proofs.Folding.{goes_on_extends, goes_on_same, goes_on_tra
 use Rattle.ts_journal.specs.declared.entry.TheConstants.{GREATEST}
 use Rattle.ts_group.specs.declared.group.TheConstants.{MOST_EVENTS}
 use Rattle.ts_group.specs.declared.group.Group.{Group}
-use Rattle.ts_group.specs.Context.{Context, moment_after, own_key}
+use Rattle.ts_group.specs.Context.{Context, own_key}
+use Rattle.ts_link.specs.Moments.{moment_after}
 use Rattle.ts_group.specs.Entries.{AllOwn, AreCalls, Grows, renewal}
 use Rattle.ts_group.specs.Calls.{Handles, IsRun, RunsFrom, if_pending, next_in}
 use Rattle.ts_proxy.specs.Journals.{first_moment, opening_turn, only_seat, IsNextDue, last_moment}

@@ -12,8 +12,8 @@ use Rattle.ts_proxy.specs.declared.answer.NamedFile.TheVariants as file
 use Rattle.ts_config.specs.declared.setup.TransformLine.{TransformLine}
 use Rattle.ts_config.specs.declared.setup.TransformLine.TheVariants as t
 use Rattle.ts_config.specs.Setup.{ConfigLines}
-use Rattle.ts_config.specs.Value.{Good, setup_of}
-use Rattle.ts_proxy.specs.Outcome.{Outcome, Usage, BadLine, Long, Text, Report, Summary}
+use Rattle.ts_config.specs.Value.{Good, config_of}
+use Rattle.ts_proxy.specs.Outcome.{Outcome, Usage, BadLine, Long, Text, Report, Summary, Serving}
 use Rattle.ts_proxy.specs.Outcome.{most_config, filled, set_up}
 use Rattle.ts_proxy.specs.Summary.{IsSummaryOf}
 use Rattle.ts_proxy.specs.Took.{TookNothing, TookSome, TookWhole}
@@ -38,6 +38,16 @@ HasOutput (Report lines bytes) = HasRecording bytes
 HasOutput (Summary numbers) = ⊤
 HasOutput _ = ⊥
 
+-- at an outcome a net is served
+abbrev pub IsServing : Outcome → Type 0
+IsServing (Serving lines) = ⊤
+IsServing _ = ⊥
+
+-- at an outcome there is a job that can be done
+abbrev pub HasJob : Outcome → Type 0
+HasJob (Serving lines) = ⊤
+HasJob o = HasOutput o
+
 -- its text
 abbrev pub IsTextOf : Outcome → List ℕ → Type 0
 IsTextOf (Text t) text = text ≡ t
@@ -52,12 +62,13 @@ RefusesRecording _ offset = ⊥
 
 -- at which outcome an answer comes; a failed read and want of memory may come at any
 abbrev pub ComesAt : List ℕ → List ℕ → Answer → Outcome → Type 0
-ComesAt config input a.Done o = HasOutput o
+ComesAt config input a.Done o = HasJob o
 ComesAt config input a.Usage o = o ≡ Usage
 ComesAt config input (a.BadLine f) o = o ≡ BadLine f.line f.kind
 ComesAt config input (a.BadRecording offset) o = RefusesRecording o offset
 ComesAt config input a.CannotWrite o = HasOutput o
 ComesAt config input (a.TooLong f) o = o ≡ Long (file_name config input f)
+ComesAt config input a.Network o = IsServing o
 ComesAt config input _ o = ⊤
 
 -- a part of the work went on as the outcome does, or its answer comes at the outcome
@@ -85,7 +96,7 @@ pub record ReachesFile (files : List ℕ → Option (List ℕ)) (lines : List Tr
 -- file
 abbrev pub IsReadFor : (List ℕ → Option (List ℕ)) → List ℕ → NamedFile → Type 0
 IsReadFor files config f = IsSomeAnd (files config) (λ bytes. (length bytes ≤ most_config)
-    × (lines : ConfigLines) × (setup_of bytes ≡ Good lines) × ReachesFile files lines.transforms f)
+    × (lines : ConfigLines) × (config_of bytes ≡ Good lines) × ReachesFile files lines.transforms f)
 
 -- the file whose read failed is one that the work comes to: the configuration; a file that one of its lines
 -- names; and the input, once all the others were read
@@ -131,7 +142,7 @@ IsOfRunning bytes a.OutOfMemory = ⊤
 IsOfRunning bytes _ = ⊥
 
 -- the count that shows the cause of an answer: of the shelf's faults, of its files that were too long, or of
--- the sink's faults
+-- the sink's faults; that of a net's fault is one of the net
 abbrev pub IsCausedBy : Answer → ShelfSeen → ShelfSeen → SinkSeen → SinkSeen → Type 0
 IsCausedBy a.Usage shelf shelf' out out' = ⊥
 IsCausedBy (a.CannotRead f) shelf shelf' out out' = Rose shelf.faults shelf'.faults
@@ -139,13 +150,23 @@ IsCausedBy a.CannotWrite shelf shelf' out out' = Rose out.faults out'.faults
 IsCausedBy (a.TooLong f) shelf shelf' out out' = Rose shelf.longs shelf'.longs
 IsCausedBy _ shelf shelf' out out' = ⊤
 
+-- a sink took all of the text of an outcome, and nothing where a net was served
+abbrev pub TookText : Outcome → SinkSeen → SinkSeen → Type 0
+TookText (Serving lines) old new = TookNothing old new
+TookText o old new = TookWhole (IsTextOf o) old new
+
 -- what a sink took of the text of an outcome: all of it where the job was done, a front of it or nothing
 -- where writing failed or memory lacked, and nothing with an answer that comes before anything is written
 abbrev pub TookAt : Answer → SinkSeen → SinkSeen → Outcome → Type 0
-TookAt a.Done old new o = TookWhole (IsTextOf o) old new
+TookAt a.Done old new o = TookText o old new
 TookAt a.CannotWrite old new o = TookSome (IsTextOf o) old new
 TookAt a.OutOfMemory old new o = TookSome (IsTextOf o) old new
 TookAt _ old new o = TookNothing old new
+
+-- what is said of the failure of a net
+abbrev pub OnNetwork : Answer → Type 0 → Type 0
+OnNetwork a.Network P = P
+OnNetwork _ P = ⊤
 
 -- what is said of an answer that comes before anything is written
 abbrev pub OnQuiet : Answer → Type 0 → Type 0

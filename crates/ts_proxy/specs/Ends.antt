@@ -1,15 +1,16 @@
 -- How the program ends: its status, when each comes, and what it leaves in the sinks.
-use Rattle.std.specs.Prelude.{◌≡◌, ◌≢◌, ◌↔◌, ℕ, List, [], ◌⊎◌, Bool, true, Option, None, IsSomeAnd}
+use Rattle.std.specs.Prelude.{◌≡◌, ◌≢◌, ℕ, List, [], ◌⊎◌, Bool, true, Option, None, IsSomeAnd}
 use Rattle.ts_link.specs.Counts.{Rose}
 use Rattle.ts_link.specs.Seen.{ShelfSeen, SinkSeen}
 use Rattle.ts_journal.specs.Log.{Log}
-use Rattle.ts_proxy.specs.Answers.{IsTextOf}
+use Rattle.ts_proxy.specs.Answers.{IsTextOf, TookText}
 use Rattle.ts_proxy.specs.declared.answer.Answer.{Answer}
 use Rattle.ts_proxy.specs.declared.answer.Answer.TheVariants as a
-use Rattle.ts_proxy.specs.Outcome.{Outcome, Usage, BadLine, Missing, Long, Text, Report, Summary, outcome_of}
-use Rattle.ts_proxy.specs.Performed.{AreJournalsAt, AreJournalsOf, LeavesShelf}
-use Rattle.ts_proxy.specs.Took.{TookSome, TookWhole}
-use Rattle.ts_proxy.specs.Words.{Task, is_told}
+use Rattle.ts_proxy.specs.Outcome.{Outcome, Usage, BadLine, Missing, Long, Text, Report, Summary, Serving}
+use Rattle.ts_proxy.specs.Outcome.{outcome_of}
+use Rattle.ts_proxy.specs.Performed.{AreJournalsAt, AreJournalsOf, LeavesOut, LeavesShelf}
+use Rattle.ts_proxy.specs.Took.{TookNothing, TookSome}
+use Rattle.ts_proxy.specs.Words.{Serves, Task, is_told}
 use Rattle.ts_replay.specs.Reports.{HasRecording}
 
 -- the statuses
@@ -35,6 +36,9 @@ cannot_write = 6
 abbrev pub out_of_memory : ℕ
 out_of_memory = 7
 
+abbrev pub network : ℕ
+network = 8
+
 abbrev pub too_long : ℕ
 too_long = 9
 
@@ -47,11 +51,17 @@ status_of (a.BadRecording offset) = bad_recording
 status_of (a.CannotRead f) = cannot_read
 status_of a.CannotWrite = cannot_write
 status_of a.OutOfMemory = out_of_memory
+status_of a.Network = network
 status_of (a.TooLong f) = too_long
 
--- the statuses that come before anything is written
+-- the statuses of files that were not read, or not understood
+abbrev pub IsFileStatus : ℕ → Type 0
+IsFileStatus n = (n ≡ bad_line) ⊎ (n ≡ cannot_read) ⊎ (n ≡ too_long)
+
+-- the statuses with which nothing is written
 abbrev pub IsQuiet : ℕ → Type 0
-IsQuiet n = (n ≡ usage) ⊎ (n ≡ bad_line) ⊎ (n ≡ bad_recording) ⊎ (n ≡ cannot_read) ⊎ (n ≡ too_long)
+IsQuiet n =
+    (n ≡ usage) ⊎ (n ≡ bad_line) ⊎ (n ≡ bad_recording) ⊎ (n ≡ cannot_read) ⊎ (n ≡ network) ⊎ (n ≡ too_long)
 
 -- all statuses
 abbrev pub IsStatus : ℕ → Type 0
@@ -60,7 +70,7 @@ IsStatus n = (n ≡ done) ⊎ (n ≡ cannot_write) ⊎ (n ≡ out_of_memory) ⊎
 -- the statuses at an outcome: its own, and those of a failed read, of want of memory and, where there is a
 -- text to write, of a failed write; that of a bad recording exactly where the bytes are none
 abbrev pub EndsAt : Outcome → ℕ → Type 0
-EndsAt Usage n = n ≡ usage
+EndsAt Usage n = (n ≡ usage) ⊎ (n ≡ out_of_memory)
 EndsAt (BadLine line kind) n = (n ≡ bad_line) ⊎ (n ≡ cannot_read) ⊎ (n ≡ out_of_memory)
 EndsAt (Missing name) n = (n ≡ cannot_read) ⊎ (n ≡ out_of_memory)
 EndsAt (Long name) n = (n ≡ too_long) ⊎ (n ≡ cannot_read) ⊎ (n ≡ out_of_memory)
@@ -69,23 +79,30 @@ EndsAt (Report lines bytes) n =
     (((n ≡ done) ⊎ (n ≡ cannot_write)) × HasRecording bytes)
     ⊎ ((n ≡ bad_recording) × (HasRecording bytes → ⊥)) ⊎ (n ≡ cannot_read) ⊎ (n ≡ out_of_memory)
 EndsAt (Summary numbers) n = (n ≡ done) ⊎ (n ≡ cannot_write) ⊎ (n ≡ out_of_memory)
+EndsAt (Serving lines) n = (n ≡ done) ⊎ (n ≡ network) ⊎ (n ≡ cannot_read) ⊎ (n ≡ out_of_memory)
 
 -- A status that a task may end with over a shelf that tells its files or not. That of usage comes exactly
--- where the words are of no command; each outcome that is told has its own, which comes there alone and
--- always, unless a read failed, memory lacked or, where there is a text, a write failed.
-pub record IsStatusOf (tells : Bool) (shelf : ShelfSeen) (task : Option Task) (n : ℕ) : Type 0 where
+-- where the words are of no command, but where they take memory to read, memory may lack; each outcome that
+-- is told has its own, which comes there alone and always, unless a read failed, memory lacked, the net
+-- failed or, where there is a text, a write failed.
+pub record IsStatusOf (take_memory tells : Bool) (shelf : ShelfSeen) (task : Option Task) (n : ℕ)
+    : Type 0 where
   pub known : IsStatus n
-  pub of_none : (n ≡ usage) ↔ (task ≡ None)
+  pub usage_of : n ≡ usage → task ≡ None
+  pub of_none : task ≡ None → (n ≡ usage) ⊎ ((take_memory ≡ true) × (n ≡ out_of_memory))
   pub at : is_told tells task ≡ true → EndsAt (outcome_of shelf task) n
 
 -- A failure is one of the shelf or of the sink that was handed in: a status of a failure comes only where its
--- count rose. Where the task names no file, what the shelf shows stays.
+-- count rose, and that of a net's only where one is served. Where the task names no file, what the shelf
+-- shows stays, and where it serves a net, what the sink shows.
 pub record HasCause (task : Option Task) (n : ℕ) (shelf shelf' : ShelfSeen) (out out' : SinkSeen)
     : Type 0 where
   pub read : n ≡ cannot_read → Rose shelf.faults shelf'.faults
   pub long : n ≡ too_long → Rose shelf.longs shelf'.longs
   pub write : n ≡ cannot_write → Rose out.faults out'.faults
+  pub net : n ≡ network → Serves task
   pub unread : LeavesShelf task shelf shelf'
+  pub unwritten : LeavesOut task out out'
 
 -- neither a read nor a write failed, so the job is done, unless memory lacked
 abbrev pub Completes : ℕ → ShelfSeen → ShelfSeen → SinkSeen → SinkSeen → Type 0
@@ -96,7 +113,13 @@ Completes n shelf shelf' out out' =
 -- what the sink took at an outcome: nothing, or a front of its text, and where the job was done all of it
 pub record TakesAt (o : Outcome) (n : ℕ) (old new : SinkSeen) : Type 0 where
   pub some : TookSome (IsTextOf o) old new
-  pub whole : n ≡ done → TookWhole (IsTextOf o) old new
+  pub whole : n ≡ done → TookText o old new
+
+-- what a sink that tells took at an outcome that is told or not, and that it took nothing with a status with
+-- which nothing is written
+pub record Takes (told : Bool) (o : Outcome) (n : ℕ) (old new : SinkSeen) : Type 0 where
+  pub at : told ≡ true → TakesAt o n old new
+  pub quiet : IsQuiet n → TookNothing old new
 
 -- The journals of a task at a status: those of its job where it was done, and else none. Where its outcome is
 -- told, they are those of the outcome.

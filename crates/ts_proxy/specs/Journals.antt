@@ -10,7 +10,7 @@ use Rattle.ts_journal.specs.Machine.{after}
 use Rattle.ts_group.specs.declared.group.TheConstants.{MOST_EVENTS}
 use Rattle.ts_group.specs.Context.{own_key}
 use Rattle.ts_group.specs.Due.{IsFirstDue}
-use Rattle.ts_replay.specs.Replayed.{IsFinal}
+use Rattle.ts_journal.specs.Final.{IsFinal}
 
 -- the seat of a driver that nobody else drives beside
 abbrev pub only_seat : ℕ

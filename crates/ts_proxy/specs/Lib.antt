@@ -5,6 +5,7 @@ pub mod Lines
 pub mod Outcome
 pub mod Performed
 pub mod Sending
+pub mod Serving
 pub mod Summary
 pub mod Took
 pub mod Words

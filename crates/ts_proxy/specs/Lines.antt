@@ -37,6 +37,7 @@ parts_of config input (a.CannotRead f) =
     codes "tsx: cannot read " ∷ file_name config input f ∷ codes "\n" ∷ []
 parts_of config input a.CannotWrite = codes "tsx: cannot write\n" ∷ []
 parts_of config input a.OutOfMemory = codes "tsx: out of memory\n" ∷ []
+parts_of config input a.Network = codes "tsx: network\n" ∷ []
 parts_of config input (a.TooLong f) = codes "tsx: too long: " ∷ file_name config input f ∷ codes "\n" ∷ []
 
 -- the line of an answer, as one text

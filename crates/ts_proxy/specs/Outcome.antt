@@ -6,9 +6,9 @@ use Rattle.ts_config.specs.declared.setup.TransformLine.{TransformLine}
 use Rattle.ts_config.specs.declared.setup.TransformLine.TheVariants as t
 use Rattle.ts_config.specs.declared.setup.ConfigKind.{ConfigKind}
 use Rattle.ts_config.specs.Setup.{ConfigLines}
-use Rattle.ts_config.specs.Value.{Reading, Good, Bad, setup_of}
+use Rattle.ts_config.specs.Value.{Reading, Good, Bad, config_of}
 use Rattle.ts_config.specs.Bodies.{compose_lines}
-use Rattle.ts_proxy.specs.Words.{Command, Transform, Replay, Task, Over, Make}
+use Rattle.ts_proxy.specs.Words.{Command, Transform, Replay, Task, Over, Make, Serve}
 use Rattle.ts_proxy.specs.declared.command.GenerateTask.{GenerateTask}
 
 -- the most bytes of a configuration, 1 MiB
@@ -25,7 +25,8 @@ most_input = 67108864
 
 -- the words are of no command; the configuration's line of this number breaks this rule; the file of this
 -- name is not there, or longer than its limit; this text is written; the report is written on the recording
--- in these bytes, under these lines, if they are one; the summary is written that these numbers stand for
+-- in these bytes, under these lines, if they are one; the summary is written that these numbers stand for; a
+-- net is served under these lines
 pub data Outcome : Type 0 where
   Usage : Outcome
   BadLine : ℕ → ConfigKind → Outcome
@@ -34,6 +35,7 @@ pub data Outcome : Type 0 where
   Text : List ℕ → Outcome
   Report : ConfigLines → List ℕ → Outcome
   Summary : GenerateTask → Outcome
+  Serving : ConfigLines → Outcome
 
 -- goes on with the bytes of a file, if it is there and has at most `most` of them
 abbrev pub opened : Option (List ℕ) → ℕ → List ℕ → (List ℕ → Outcome) → Outcome
@@ -68,7 +70,7 @@ lines_filled files lines next = filled files lines.transforms (λ ts. next (with
 abbrev pub set_up : (List ℕ → Option (List ℕ)) → List ℕ → (ConfigLines → Outcome) → Outcome
 set_up files config next =
     opened (files config) most_config config
-    (λ bytes. understood (setup_of bytes) (λ lines. lines_filled files lines next))
+    (λ bytes. understood (config_of bytes) (λ lines. lines_filled files lines next))
 
 -- what a command makes of the lines and its input: `transform` passes a body through the transform lines, and
 -- those of hook plugins have no effect on it; `replay` runs a recording under all of them
@@ -86,3 +88,4 @@ abbrev pub outcome_of : ShelfSeen → Option Task → Outcome
 outcome_of shelf None = Usage
 outcome_of shelf (Some (Over command config input)) = performed command shelf.file config input
 outcome_of shelf (Some (Make numbers)) = Summary numbers
+outcome_of shelf (Some (Serve words)) = set_up shelf.file words.config (λ lines. Serving lines)

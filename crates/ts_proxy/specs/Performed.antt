@@ -4,16 +4,18 @@ use Rattle.ts_config.specs.Setup.{ConfigLines}
 use Rattle.ts_journal.specs.Log.{Log}
 use Rattle.ts_link.specs.Seen.{ShelfSeen, SinkSeen}
 use Rattle.ts_proxy.specs.Answers.{ComesAt, HasOutput, IsCausedBy, IsOfWork, IsReadBy, IsTextOf, OnCannotRead}
-use Rattle.ts_proxy.specs.Answers.{OnQuiet, TookAt}
+use Rattle.ts_proxy.specs.Answers.{OnNetwork, OnQuiet, TookAt}
 use Rattle.ts_proxy.specs.Journals.{IsOfDriver}
 use Rattle.ts_proxy.specs.Outcome.{Outcome, Report, Summary, outcome_of}
 use Rattle.ts_proxy.specs.Summary.{fixed_lines, txns_of}
 use Rattle.ts_proxy.specs.Took.{TookNothing}
-use Rattle.ts_proxy.specs.Words.{Transform, Replay, Task, Over, Make, config_in, input_in, is_told}
+use Rattle.ts_proxy.specs.Words.{Transform, Replay, Task, Over, Make, Serve, Serves, config_in, input_in}
+use Rattle.ts_proxy.specs.Words.{is_told}
 use Rattle.ts_proxy.specs.declared.answer.Answer.{Answer}
 use Rattle.ts_proxy.specs.declared.answer.Answer.TheVariants as a
-use Rattle.ts_record.specs.Grammar.{TxnPieces, IsRecording}
-use Rattle.ts_replay.specs.Replayed.{IsFinal, IsReplayed}
+use Rattle.ts_record.specs.Grammar.{Contents, IsRecording}
+use Rattle.ts_journal.specs.Final.{IsFinal}
+use Rattle.ts_replay.specs.Replayed.{IsReplayed}
 use Rattle.ts_replay.specs.declared.outcomes.Replayed.{Replayed}
 
 -- the journal of a job that was done by the serial driver of a body
@@ -29,12 +31,18 @@ abbrev pub AreJournalsOf : Task → List Log → Type 0
 AreJournalsOf (Over Transform config input) js = IsOfBody js
 AreJournalsOf (Over Replay config input) js = AreOfThreads js
 AreJournalsOf (Make numbers) js = AreOfThreads js
+AreJournalsOf (Serve words) js = js ≡ []
 
 -- the transactions of the recording in these bytes were replayed under these lines
 pub record IsReplayOn (lines : ConfigLines) (bytes : List ℕ) (r : Replayed) : Type 0 where
-  pub txns : List TxnPieces
-  pub recording : IsRecording bytes txns
-  pub replayed : IsReplayed lines txns r
+  pub contents : Contents
+  pub recording : IsRecording bytes contents
+  pub replayed : IsReplayed lines contents.txns r
+
+-- and the recording is of this version
+pub record IsReplayIn (lines : ConfigLines) (bytes : List ℕ) (version : ℕ) (r : Replayed) : Type 0 where
+  pub on : IsReplayOn lines bytes r
+  pub version_is : on.contents.version ≡ version
 
 -- the journals are those of an outcome: of recorded transactions, or of those that numbers stand for, in
 -- their order, and behind them of the hook plugins of the lines
@@ -58,11 +66,18 @@ LeavesJournalsAt _ o js = ⊤
 abbrev pub NamesFiles : Task → Type 0
 NamesFiles (Over command config input) = ⊤
 NamesFiles (Make numbers) = ⊥
+NamesFiles (Serve words) = ⊤
 
 -- where a task names no file, and where there is none, what a shelf shows stays
 abbrev pub LeavesShelf : Option Task → ShelfSeen → ShelfSeen → Type 0
 LeavesShelf (Some (Over command config input)) old new = ⊤
+LeavesShelf (Some (Serve words)) old new = ⊤
 LeavesShelf _ old new = new ≡ old
+
+-- where a net is served, what a sink shows stays
+abbrev pub LeavesOut : Option Task → SinkSeen → SinkSeen → Type 0
+LeavesOut (Some (Serve words)) old new = new ≡ old
+LeavesOut _ old new = ⊤
 
 -- the text and the journals of an outcome whose transactions were run by event threads
 pub record IsRunTo (o : Outcome) (text : List ℕ) (js : List Log) : Type 0 where
@@ -94,6 +109,8 @@ pub record IsPerformed (task : Task) (tells out_tells : Bool) (shelf shelf' : Sh
       → TookAt answer out out' (outcome_of shelf (Some task))
   pub quiet : out_tells ≡ true → OnQuiet answer (TookNothing out out')
   pub cause : IsCausedBy answer shelf shelf' out out'
+  pub of_net : OnNetwork answer (Serves (Some task))
   pub unread : LeavesShelf (Some task) shelf shelf'
+  pub unwritten : LeavesOut (Some task) out out'
   pub journals : LeavesJournals (AreJournalsOf task) answer js
   pub each : is_told tells (Some task) ≡ true → LeavesJournalsAt answer (outcome_of shelf (Some task)) js

@@ -1,6 +1,6 @@
 -- What the words after the program's name ask for.
-use Rattle.std.specs.Prelude.{ℕ, ◌==◌, ◌+◌, ◌*◌, ◌≤◌, ◌<◌, nat_le, ◌&&◌, not, Bool, true, false, List, [], ◌∷◌, map}
-use Rattle.std.specs.Prelude.{Option, Some, None, codes, string_bytes, if◌then◌else◌}
+use Rattle.std.specs.Prelude.{ℕ, ◌==◌, ◌+◌, ◌*◌, ◌≤◌, ◌<◌, nat_le, ◌&&◌, not, Bool, true, false, List, [], ◌∷◌, map, ⊤}
+use Rattle.std.specs.Prelude.{Option, Some, None, codes, drop, string_bytes, if◌then◌else◌}
 use Rattle.std.specs.Char.{is_ascii_digit}
 use Rattle.std.specs.Option.{option_and_then, option_map, option_map_or}
 use Rattle.std.specs.Str.{bytes_eq}
@@ -12,16 +12,19 @@ use Rattle.ts_proxy.specs.declared.command.ThreadedTask.{ThreadedTask}
 use Rattle.ts_proxy.specs.declared.command.ThreadedTask.TheVariants as asked
 use Rattle.ts_record.specs.declared.recording.TheConstants.{MOST_TXNS}
 use Rattle.ts_thread.specs.declared.TheConstants.{MOST_THREADS}
+use Rattle.ts_words.specs.Serve.{ServeWords, serve_asked, words_of}
 
 -- the commands that take a configuration and one more file, their input
 pub data Command : Type 0 where
   Transform : Command
   Replay : Command
 
--- what is asked for: a command over its two files by name, or `generate` with its numbers
+-- what is asked for: a command over its two files by name, `generate` with its numbers, or `serve` with what
+-- its words say
 pub data Task : Type 0 where
   Over : Command → List ℕ → List ℕ → Task
   Make : GenerateTask → Task
+  Serve : ServeWords → Task
 
 -- the command of a word, if it is one of these
 abbrev pub command_named : List ℕ → Option Command
@@ -76,21 +79,33 @@ abbrev pub generate_asked : List ℕ → List ℕ → List ℕ → List ℕ → 
 generate_asked word seed count size =
     if bytes_eq word (codes "generate") then generate_of seed count size else None
 
--- The task of words, if they are of a command: `transform CONFIG BODY`, `replay CONFIG RECORDING`,
--- `replay --threads N CONFIG RECORDING` or `generate SEED COUNT SIZE`.
-abbrev pub task_of_bytes : List (List ℕ) → Option Task
-task_of_bytes (word ∷ config ∷ input ∷ []) =
+-- The task of words in a fixed order, if they are of such a command: `transform CONFIG BODY`,
+-- `replay CONFIG RECORDING`, `replay --threads N CONFIG RECORDING` or `generate SEED COUNT SIZE`.
+abbrev pub ordered_task : List (List ℕ) → Option Task
+ordered_task (word ∷ config ∷ input ∷ []) =
     option_map (λ command. Over command config input) (command_named word)
-task_of_bytes (word ∷ seed ∷ count ∷ size ∷ []) =
+ordered_task (word ∷ seed ∷ count ∷ size ∷ []) =
     option_map (λ numbers. Make numbers) (generate_asked word seed count size)
-task_of_bytes (word ∷ option ∷ number ∷ config ∷ input ∷ []) =
+ordered_task (word ∷ option ∷ number ∷ config ∷ input ∷ []) =
     option_map (λ threads. Over Replay config input) (threads_asked word option number)
-task_of_bytes _ = None
+ordered_task _ = None
 
 -- the first word is `transform`
 abbrev pub begins_transform : List (List ℕ) → Bool
 begins_transform [] = false
 begins_transform (word ∷ words) = bytes_eq word (codes "transform")
+
+-- the first word is `serve`
+abbrev pub begins_serve : List (List ℕ) → Bool
+begins_serve [] = false
+begins_serve (word ∷ words) = bytes_eq word (codes "serve")
+
+-- The task of words, if they are of a command: behind `serve` options in any order, and else words in a fixed
+-- order.
+abbrev pub task_of_bytes : List (List ℕ) → Option Task
+task_of_bytes words =
+    if begins_serve words then option_map (λ found. Serve found) (serve_asked (drop 1 words))
+    else ordered_task words
 
 -- the word begins with a digit, which is no zero before others
 abbrev pub begins_number : List ℕ → Bool
@@ -110,26 +125,36 @@ task_of words = task_of_bytes (word_bytes words)
 abbrev pub threaded_task : ThreadedTask → Task
 threaded_task (asked.Replay r) = Over Replay r.config.now r.recording.now
 threaded_task (asked.Generate numbers) = Make numbers
+threaded_task (asked.Serve s) = Serve (words_of s)
 
--- its threads are 1 to 64, or its transactions at most as many as a recording has
+-- its threads are 1 to 64, and its transactions at most as many as a recording has
 abbrev pub IsInLimits : ThreadedTask → Type 0
 IsInLimits (asked.Replay r) = (0 < r.threads) × (r.threads ≤ MOST_THREADS)
 IsInLimits (asked.Generate numbers) = numbers.count ≤ MOST_TXNS
+IsInLimits (asked.Serve s) = (0 < s.threads) × (s.threads ≤ MOST_THREADS)
+
+-- a task serves a net
+abbrev pub Serves : Option Task → Type 0
+Serves (Some (Serve words)) = ⊤
+Serves _ = ⊥
 
 -- the name of the configuration that a task has, or none
 abbrev pub config_in : Task → List ℕ
 config_in (Over command config input) = config
 config_in (Make numbers) = []
+config_in (Serve words) = words.config
 
 -- and that of its input
 abbrev pub input_in : Task → List ℕ
 input_in (Over command config input) = input
 input_in (Make numbers) = []
+input_in (Serve words) = []
 
 -- whether what a task comes to is told, by a shelf that tells its files or not: where the task names no file,
 -- its words tell it
 abbrev pub is_told : Bool → Option Task → Bool
 is_told tells (Some (Over command config input)) = tells
+is_told tells (Some (Serve words)) = tells
 is_told tells _ = true
 
 -- the names of the files of a task that there may be

@@ -29,6 +29,8 @@ pub enum Answer {
     CannotWrite,
     OutOfMemory,
     TooLong(NamedFile),
+    /// The net failed when it was to listen or to give a client.
+    Network,
 }
 
 /// The answer where the read of a file was refused.

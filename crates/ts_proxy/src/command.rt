@@ -1,14 +1,19 @@
 //! What the words after the program's name ask for: the command, its files by name or its numbers, and the
 //! number of threads.
-ghost use Rattle.std.specs.Prelude.{◌≡◌, ◌≤◌, ◌<◌, None, Some, true, false, IfSome, MatchOption};
-ghost use Rattle.ts_proxy.specs.Words.{IsInLimits, Over, Transform, begins_transform, config_in, input_in};
-ghost use Rattle.ts_proxy.specs.Words.{generate_asked, generate_of, task_of, threaded_task, threads_asked, threads_of, word_bytes};
+ghost use Rattle.std.specs.Prelude.{◌≡◌, ◌≤◌, ◌<◌, None, Some, true, false, option_map, IfOk, IfSome, MatchOption, OnErr};
+ghost use Rattle.ts_proxy.specs.Words.{IsInLimits, Over, Serve, Transform, begins_serve, begins_transform, config_in, generate_asked};
+ghost use Rattle.ts_proxy.specs.Words.{generate_of, input_in, ordered_task, task_of, threaded_task, threads_asked, threads_of};
+ghost use Rattle.ts_proxy.specs.Words.{word_bytes};
 ghost use Rattle.ts_record.specs.declared.recording.TheConstants.{MOST_TXNS};
 ghost use Rattle.ts_thread.specs.declared.TheConstants.{MOST_THREADS};
+ghost use Rattle.ts_words.specs.Serve.{serve_asked};
 
 use crate::number::number_of;
+use std::alloc::Global;
+use ts_link::NoMemory;
 use ts_record::MOST_TXNS;
 use ts_thread::MOST_THREADS;
+use ts_words::{ServeTask, serve_task};
 
 // The most bytes that a body of `generate` may have.
 const MOST_SIZE: u64 = 1_048_576;
@@ -48,6 +53,7 @@ pub struct GenerateTask {
 pub enum ThreadedTask<'a> {
     Replay(ReplayTask<'a>),
     Generate(GenerateTask),
+    Serve(ServeTask<'a>),
 }
 
 /// Whether the first word is `transform`.
@@ -61,6 +67,7 @@ pub fn begins_transform(words: &[String]) -> bool
 }
 
 /// How `transform` is asked for, if words that begin with it are of that command.
+#[tactic(auto, using(crate::proofs::Words::transform_ordered))]
 pub fn transform_task(words: &[String]) -> Option<TransformTask<'_>>
     requires { begins_transform (word_bytes words.now) ≡ true }
     ensures { MatchOption result (task_of words.now ≡ None) (λ task. task_of words.now ≡
@@ -132,13 +139,13 @@ fn generate_asked(word: &str, seed: &str, count: &str, size: &str) -> Option<Gen
     }
 }
 
-/// What words that don't begin with `transform` ask for, if they are of a command. `replay` is asked for on
-/// one thread where they name no number.
+// What words in a fixed order ask for that don't begin with `transform`, if they are of a command. `replay`
+// is asked for on one thread where they name no number.
 #[tactic(auto, using(crate::proofs::Words::none_other))]
-pub fn threaded_task(words: &[String]) -> Option<ThreadedTask<'_>>
+fn ordered_task(words: &[String]) -> Option<ThreadedTask<'_>>
     requires { begins_transform (word_bytes words.now) ≡ false }
-    ensures task { MatchOption result (task_of words.now ≡ None) (λ task. task_of words.now ≡
-        Some (threaded_task task)) }
+    ensures task { MatchOption result (ordered_task (word_bytes words.now) ≡ None) (λ task.
+        ordered_task (word_bytes words.now) ≡ Some (threaded_task task)) }
     ensures most { IfSome result IsInLimits }
 {
     match words {
@@ -167,6 +174,37 @@ pub fn threaded_task(words: &[String]) -> Option<ThreadedTask<'_>>
     }
 }
 
+// What the words after `serve` ask for, if `clap` takes them.
+fn served_task<'a>(alloc: Global, words: &'a [String]) -> Result<Option<ThreadedTask<'a>>, NoMemory>
+    ensures task { IfOk result (λ asked.
+        option_map threaded_task asked
+        ≡ option_map (λ found. Serve found) (serve_asked (word_bytes words.entry.now))) }
+    ensures most { IfOk result (λ asked. IfSome asked IsInLimits) }
+{
+    let Some(task) = serve_task(alloc, words)? else {
+        return Ok(None);
+    };
+    Ok(Some(ThreadedTask::Serve(task)))
+}
+
+/// What words that don't begin with `transform` ask for, if they are of a command. Those of `serve` take
+/// memory to read.
+pub fn threaded_task<'a>(
+    alloc: Global,
+    words: &'a [String],
+) -> Result<Option<ThreadedTask<'a>>, NoMemory>
+    requires { begins_transform (word_bytes words.now) ≡ false }
+    ensures task { IfOk result (λ asked. MatchOption asked (task_of words.entry.now ≡ None) (λ task.
+        task_of words.entry.now ≡ Some (threaded_task task))) }
+    ensures most { IfOk result (λ asked. IfSome asked IsInLimits) }
+    ensures memory { OnErr result (begins_serve (word_bytes words.entry.now) ≡ true) }
+{
+    match words {
+        [first, rest @ ..] if first.as_str() == "serve" => served_task(alloc, rest),
+        _ => Ok(ordered_task(words)),
+    }
+}
+
 /// The name of the configuration that a task has, or none.
 pub fn config_name<'a>(task: &ThreadedTask<'a>) -> &'a str
     ensures { result.now ≡ config_in (threaded_task task.now) }
@@ -174,6 +212,7 @@ pub fn config_name<'a>(task: &ThreadedTask<'a>) -> &'a str
     match task {
         ThreadedTask::Replay(replay) => replay.config,
         ThreadedTask::Generate(_) => "",
+        ThreadedTask::Serve(serve) => serve.config,
     }
 }
 
@@ -184,5 +223,6 @@ pub fn input_name<'a>(task: &ThreadedTask<'a>) -> &'a str
     match task {
         ThreadedTask::Replay(replay) => replay.recording,
         ThreadedTask::Generate(_) => "",
+        ThreadedTask::Serve(_) => "",
     }
 }

@@ -11,6 +11,7 @@ mod number;
 mod reading;
 mod replay;
 mod report;
+mod serve;
 mod summary;
 mod telling;
 mod threaded;

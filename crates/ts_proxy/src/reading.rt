@@ -16,7 +16,7 @@ use crate::answer::{Answer, NamedFile, refused};
 use std::alloc::Global;
 use std::collections::VecDeque;
 use std::str;
-use ts_config::{ConfigRefusal, Setup, TransformLine, read_setup};
+use ts_config::{ConfigRefusal, Setup, TransformLine, read_config};
 use ts_link::{NoMemory, Octets, Shelf};
 
 const MOST_CONFIG: u64 = 1_048_576;
@@ -136,8 +136,9 @@ fn fill_setup<S: Shelf>(alloc: Global, shelf: &mut S, setup: Setup) -> Result<Se
     }
 }
 
-// The lines of a configuration, with the texts of the files that they name.
-fn set_up<S: Shelf>(alloc: Global, shelf: &mut S, config: &str) -> Result<Setup, Answer>
+/// The lines of a configuration, which the shelf has under this name, with the texts of the files that they
+/// name.
+pub fn set_up<S: Shelf>(alloc: Global, shelf: &mut S, config: &str) -> Result<Setup, Answer>
     ensures told { S.tells ≡ true → (input : List ℕ) (next : ConfigLines → Outcome) →
         Leads config.now input result (set_up (S.seen shelf.old).file config.now next)
         (λ s. next (lines_of s)) }
@@ -152,7 +153,7 @@ fn set_up<S: Shelf>(alloc: Global, shelf: &mut S, config: &str) -> Result<Setup,
         Ok(bytes) => bytes,
         Err(fault) => return Err(refused(fault, NamedFile::Config)),
     };
-    match read_setup(alloc, bytes.bytes()) {
+    match read_config(alloc, bytes.bytes()) {
         Ok(setup) => fill_setup(alloc, shelf, setup),
         Err(ConfigRefusal::Fault(fault)) => Err(Answer::BadLine(fault)),
         Err(ConfigRefusal::NoMemory) => Err(Answer::OutOfMemory),

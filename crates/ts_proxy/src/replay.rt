@@ -4,7 +4,7 @@ ghost use Rattle.std.specs.Prelude.{◌<◌, ◌≤◌, ℕ, List, IfErr, IfOk};
 ghost use Rattle.ts_config.specs.Setup.{ConfigLines, lines_of};
 ghost use Rattle.ts_proxy.specs.Answers.{IsOfRunning};
 ghost use Rattle.ts_proxy.specs.Outcome.{Report};
-ghost use Rattle.ts_proxy.specs.Performed.{AreOfThreads, IsCarriedOut, IsPerformed, IsReplayOn};
+ghost use Rattle.ts_proxy.specs.Performed.{AreOfThreads, IsCarriedOut, IsPerformed, IsReplayIn};
 ghost use Rattle.ts_proxy.specs.Words.{Over, Replay};
 ghost use Rattle.ts_record.specs.Grammar.{IsRecording};
 ghost use Rattle.ts_record.specs.Report.{AreReported};
@@ -21,22 +21,30 @@ use std::sync::Wait;
 use std::thread::Threads;
 use ts_config::Setup;
 use ts_link::{Gate, NoMemory, Octets, Shelf, Sink};
-use ts_record::{RecordedTxn, RecordingRefusal, read_recording};
+use ts_record::{Recording, RecordingRefusal, read_recording};
 use ts_replay::Replayed;
 
-// The transactions of the recording in these bytes.
-fn read_txns(alloc: Global, bytes: Octets) -> Result<Vec<RecordedTxn>, Answer>
-    ensures recording { IfOk result (λ txns. IsRecording bytes txns.items) }
+// What a recording came to that was run, and its version, which the report names.
+#[derive(Drop)]
+struct RanRecording {
+    version: u8,
+    replayed: Replayed,
+}
+
+// The recording in these bytes.
+fn read_contents(alloc: Global, bytes: Octets) -> Result<Recording, Answer>
+    ensures recording { IfOk result (IsRecording bytes) }
     ensures refusal { IfErr result (IsOfRunning bytes) }
 {
     match read_recording(alloc, bytes.bytes()) {
-        Ok(recording) => Ok(recording.txns),
+        Ok(recording) => Ok(recording),
         Err(RecordingRefusal::Fault { offset }) => Err(Answer::BadRecording { offset }),
         Err(RecordingRefusal::NoMemory) => Err(Answer::OutOfMemory),
     }
 }
 
 // Runs the transactions of the recording in these bytes under the lines of a configuration.
+#[tactic(auto, using(crate::proofs::Performing::all_take_some))]
 fn run_recording<G: Gate + Sync, R: Threads + Wait + Sync>(
     rt: &R,
     alloc: Global,
@@ -44,31 +52,32 @@ fn run_recording<G: Gate + Sync, R: Threads + Wait + Sync>(
     bytes: Octets,
     threads: u32,
     gate: &G,
-) -> Result<Replayed, Answer>
+) -> Result<RanRecording, Answer>
     requires lines { HasPlainLines setup }
     requires threads { (0 < threads) × (threads ≤ MOST_THREADS) }
-    ensures replayed { IfOk result (IsReplayOn (lines_of setup) bytes) }
+    ensures replayed { IfOk result (λ ran. IsReplayIn (lines_of setup) bytes ran.version ran.replayed) }
     ensures refusal { IfErr result (IsOfRunning bytes) }
 {
-    let txns = match read_txns(alloc, bytes) {
-        Ok(txns) => txns,
+    let Recording { version, txns } = match read_contents(alloc, bytes) {
+        Ok(recording) => recording,
         Err(answer) => return Err(answer),
     };
     match run_txns(rt, alloc, setup, txns, threads, gate) {
-        Ok(replayed) => Ok(replayed),
+        Ok(replayed) => Ok(RanRecording { version, replayed }),
         Err(NoMemory) => Err(Answer::OutOfMemory),
     }
 }
 
-// Writes the report on transactions that were run. Their journals are left.
-fn send_report<K: Sink>(alloc: Global, replayed: Replayed, out: &mut K) -> Performed
-    requires reported { AreReported replayed.blocks.items }
-    ensures { (lines : ConfigLines) (bytes : List ℕ) → IsReplayOn lines bytes replayed →
+// Writes the report on a recording that was run. The journals are left.
+fn send_report<K: Sink>(alloc: Global, ran: RanRecording, out: &mut K) -> Performed
+    requires reported { AreReported ran.replayed.blocks.items }
+    ensures { (lines : ConfigLines) (bytes : List ℕ) → IsReplayIn lines bytes ran.version ran.replayed →
         IsCarriedOut AreOfThreads (Report lines bytes) K.tells (K.seen out.old) (K.seen out.new)
         result.answer result.journals.items }
 {
+    let RanRecording { version, replayed } = ran;
     let Replayed { blocks, journals } = replayed;
-    let end = write_report(alloc, blocks, out);
+    let end = write_report(alloc, version, blocks, out);
     performed_after(alloc, end, journals)
 }
 
@@ -92,7 +101,7 @@ pub fn perform_replay<S: Shelf, K: Sink, G: Gate + Sync, R: Threads + Wait + Syn
         Err(answer) => return Performed::without(alloc, answer),
     };
     match run_recording(rt, alloc, setup, input, task.threads, gate) {
-        Ok(replayed) => send_report(alloc, replayed, out),
+        Ok(ran) => send_report(alloc, ran, out),
         Err(answer) => Performed::without(alloc, answer),
     }
 }

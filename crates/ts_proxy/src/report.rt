@@ -8,7 +8,7 @@ use crate::writing::{SendEnd, write_all};
 use std::alloc::Global;
 use std::collections::VecDeque;
 use ts_link::Sink;
-use ts_record::{REPORT_BEGIN, REPORT_END, ReportBlock, add_block};
+use ts_record::{REPORT_END, ReportBlock, add_block, begin_report};
 
 // Lines are gathered until they have so many bytes, so that small blocks share a write.
 const LEAST_WRITTEN: usize = 65_536;
@@ -36,14 +36,20 @@ fn send_block<K: Sink>(
     end
 }
 
-/// Writes the report on transactions that came to these blocks, in their order. Of its text there are at no
+/// Writes the report on the transactions of a recording of this version that came to these blocks, in their
+/// order. Of its text there are at no
 /// time more than the lines on one block and 65,536 bytes in front of them. A block is let go once its lines
 /// are made. Where memory lacks for those of a later one, a front of the report may have been written.
-pub fn write_report<K: Sink>(alloc: Global, blocks: Vec<ReportBlock>, out: &mut K) -> SendEnd
+pub fn write_report<K: Sink>(
+    alloc: Global,
+    version: u8,
+    blocks: Vec<ReportBlock>,
+    out: &mut K,
+) -> SendEnd
     requires { AreReported blocks.items }
-    ensures { IsSent result K.tells (K.seen out.old) (K.seen out.new) (report_text blocks.items) }
+    ensures { IsSent result K.tells (K.seen out.old) (K.seen out.new) (report_text version blocks.items) }
 {
-    let Ok(mut lines) = Vec::from_slice(alloc, REPORT_BEGIN) else {
+    let Ok(mut lines) = begin_report(alloc, version) else {
         return SendEnd::NoMemory;
     };
     let mut rest = VecDeque::from_vec(blocks);

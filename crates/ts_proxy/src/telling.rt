@@ -23,6 +23,8 @@ const CANNOT_WRITE: &[u8] = b"tsx: cannot write\n";
 
 const OUT_OF_MEMORY: &[u8] = b"tsx: out of memory\n";
 
+const NETWORK: &[u8] = b"tsx: network\n";
+
 const TOO_LONG: &[u8] = b"tsx: too long: ";
 
 const COLON: &[u8] = b": ";
@@ -99,6 +101,7 @@ pub fn say<E: Sink>(err: &mut E, answer: &Answer, config: &str, input: &str)
         Answer::CannotRead(file) => tell(err, &[CANNOT_READ, name(config, input, file), LINE_FEED]),
         Answer::CannotWrite => tell(err, &[CANNOT_WRITE]),
         Answer::OutOfMemory => tell(err, &[OUT_OF_MEMORY]),
+        Answer::Network => tell(err, &[NETWORK]),
         Answer::TooLong(file) => tell(err, &[TOO_LONG, name(config, input, file), LINE_FEED]),
     }
 }

@@ -7,7 +7,7 @@ ghost use Rattle.ts_link.specs.Seen.{SinkSeen};
 ghost use Rattle.ts_proxy.specs.Performed.{AreOfThreads, IsCarriedOut, IsRunTo};
 ghost use Rattle.ts_proxy.specs.Sending.{IsSent};
 ghost use Rattle.ts_record.specs.declared.recording.TheConstants.{MOST_TXNS};
-ghost use Rattle.ts_replay.specs.Recorded.{HasPlainLines};
+ghost use Rattle.ts_replay.specs.Recorded.{AllTakeSome, HasPlainLines};
 ghost use Rattle.ts_replay.specs.Replayed.{IsReplayed};
 ghost use Rattle.ts_thread.specs.declared.TheConstants.{MOST_THREADS};
 
@@ -22,8 +22,9 @@ use ts_link::{Gate, NoMemory};
 use ts_record::RecordedTxn;
 use ts_replay::{ReplayFault, Replayed};
 
-/// Runs transactions under the lines of a configuration on so many event threads, which pass the gate. Where
-/// a group had all the turns that it gets, it answers as where memory lacks.
+/// Runs transactions under the lines of a configuration on so many event threads, which pass the gate. A
+/// client that leaves takes at least one byte before. Where a group had all the turns that it gets, it answers
+/// as where memory lacks.
 pub fn run_txns<G: Gate + Sync, R: Threads + Wait + Sync>(
     rt: &R,
     alloc: Global,
@@ -34,6 +35,7 @@ pub fn run_txns<G: Gate + Sync, R: Threads + Wait + Sync>(
 ) -> Result<Replayed, NoMemory>
     requires lines { HasPlainLines setup }
     requires txns { length txns.items ≤ MOST_TXNS }
+    requires leaves { AllTakeSome txns.items }
     requires threads { (0 < threads) × (threads ≤ MOST_THREADS) }
     ensures { IfOk result (IsReplayed (lines_of setup) txns.items) }
 {

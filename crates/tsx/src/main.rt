@@ -1,4 +1,4 @@
-//! `tsx`: the proxy's commands over files and standard streams.
+//! `tsx`: the proxy's commands over files, standard streams and sockets.
 #![tactic(auto)]
 
 mod command_line;
@@ -12,21 +12,28 @@ use file_shelf::FileShelf;
 use opener::SystemOpener;
 use std::process::ExitCode;
 use ts_link::OpenGate;
+use ts_net::MonotonicClock;
+use ts_socket_net::SocketNet;
 use writer_sink::WriterSink;
 
 fn main(rt: HostRuntime) -> ExitCode {
+    let words = program_words(&rt);
+    let clock = MonotonicClock::new(&rt);
     let mut shelf = FileShelf::new(SystemOpener::new(&rt));
+    let mut net = SocketNet::new(&rt, rt.alloc(), &clock);
     let mut out = WriterSink::new(rt.stdout());
     let mut err = WriterSink::new(rt.stderr());
-    let gate = OpenGate::make();
-    let words = program_words(&rt);
-    ExitCode::from(run_words(
+    let status = run_words(
         &rt,
         rt.alloc(),
         words,
         &mut shelf,
+        &mut net,
         &mut out,
         &mut err,
-        &gate,
-    ))
+        &clock,
+        &OpenGate::make(),
+    );
+    net.finish();
+    ExitCode::from(status)
 }

@@ -5,7 +5,7 @@ use Rattle.ts_proxy.proofs.Performing.{performed-unread, performed-worked, work-
 use Rattle.ts_proxy.proofs.replay.perform_replay.Goals as goal
 
 pub send_report-requires : goal.send_report-requires
-send_report-requires g c = record { reported = c.in-Ok-run_recording.ensures.replayed.replayed.comes.reported }
+send_report-requires g c = record { reported = c.in-Ok-run_recording.ensures.replayed.on.replayed.comes.reported }
 
 pub returns-in-Err : goal.returns-in-Err
 returns-in-Err g c =

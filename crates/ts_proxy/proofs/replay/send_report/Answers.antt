@@ -7,6 +7,6 @@ use Rattle.ts_record.specs.Report.{report_text}
 
 pub returns : goal.returns
 returns g c = λ lines bytes on.
-    let text = report_text c.args.replayed.blocks.items in
+    let text = report_text c.args.ran.version c.args.ran.replayed.blocks.items in
     c.performed_after.ensures (Report lines bytes) text g.K.Sink.tells _ _
-    (run-to-report lines bytes c.args.replayed text on refl) c.write_report-end.ensures
+    (run-to-report lines bytes c.args.ran.version c.args.ran.replayed text on refl) c.write_report-end.ensures

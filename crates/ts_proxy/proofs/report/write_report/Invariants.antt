@@ -9,7 +9,7 @@ use Rattle.ts_record.specs.Report.{AreReported, report_text}
 abbrev pub invariant-report : goal.invariant-report
 invariant-report g l = record {
   took : g.K.Sink.tells ≡ true → TookBut (g.K.Sink.seen l.initial.out) (g.K.Sink.seen l.out)
-      (report_text l.fn.blocks.items) (still_out l.lines.items (l.number + 1) l.rest.items);
+      (report_text l.version l.fn.blocks.items) (still_out l.lines.items (l.number + 1) l.rest.items);
   faults : (g.K.Sink.seen l.out).faults ≡ (g.K.Sink.seen l.initial.out).faults;
   count : l.number + length l.rest.items ≡ length l.fn.blocks.items;
   reported : AreReported l.rest.items;

@@ -1,9 +1,16 @@
--- The status is that of what the task came to.
+-- The status and what out took are those of what the task came to.
 use Rattle.ts_proxy.specs.Words.{Over, Transform}
-use Rattle.ts_proxy.proofs.Ending.{status_is}
+use Rattle.ts_proxy.proofs.Ending.{status_is, takes_is}
 use Rattle.ts_proxy.proofs.top.run_transform.Goals as goal
 
 pub returns-clause-status : goal.returns-clause-status
 returns-clause-status g c =
-    status_is g.S.Shelf.tells _ _ _ _ _ _ (Over Transform c.in-Some.task.config.now c.in-Some.task.body.now) _
-    _ _ c.in-Some.ensures c.end-2.ensures.status c.perform_transform-performed.ensures
+    let task = Over Transform c.in-Some.task.config.now c.in-Some.task.body.now in
+    status_is _ g.S.Shelf.tells _ _ _ _ _ _ task _ _ _ c.in-Some.ensures c.end-2.ensures.status
+    c.perform_transform-performed.ensures
+
+pub returns-clause-takes : goal.returns-clause-takes
+returns-clause-takes g c =
+    let task = Over Transform c.in-Some.task.config.now c.in-Some.task.body.now in
+    takes_is g.S.Shelf.tells g.K.Sink.tells _ _ _ _ _ task _ _ _ c.in-Some.ensures c.end-2.ensures.status
+    c.perform_transform-performed.ensures

@@ -1,0 +1,69 @@
+-- What `serve` leaves of the net: what it was handed, and why serving it ended.
+use Rattle.std.specs.Prelude.{◌≡◌, ◌≤◌, ◌⊎◌, ⊤, ℕ, Bool, true, Option, Some}
+use Rattle.ts_config.specs.Setup.{lines_of}
+use Rattle.ts_config.specs.declared.setup.Setup.{Setup}
+use Rattle.ts_link.specs.Counts.{Rose}
+use Rattle.ts_link.specs.Seen.{ShelfSeen}
+use Rattle.ts_link.specs.declared.link.Link as link
+use Rattle.ts_serve.specs.Served.{AreRetired, HandsAllOver}
+use Rattle.ts_serve.specs.Transactions.{IsTxnDone}
+use Rattle.ts_serve.specs.declared.door.TheConstants.{PLACES}
+use Rattle.ts_stock.specs.StockTransform.{stock_transform}
+use Rattle.ts_txn.specs.Net.{NetSeen}
+use Rattle.ts_txn.specs.declared.retired.Retired.{Retired}
+use Rattle.ts_upstream.specs.declared.upstream.Upstream as upstream
+use Rattle.ts_proxy.specs.declared.answer.Answer.{Answer}
+use Rattle.ts_proxy.specs.declared.answer.Answer.TheVariants as a
+use Rattle.ts_proxy.specs.Answers.{IsServing}
+use Rattle.ts_proxy.specs.Ends.{IsFileStatus, done, network, out_of_memory}
+use Rattle.ts_proxy.specs.Outcome.{Outcome, Serving, outcome_of}
+use Rattle.ts_proxy.specs.Words.{Serve, Task}
+use Rattle.ts_words.specs.Serve.{ServeWords}
+
+module _ {C O : Type 0} (client : link.Ghosts C) (origin : link.Ghosts O) (both : upstream.Ghosts O C) where
+  -- What is left of a transaction that has ended under a setup; where the files are told, that is the one
+  -- that they give.
+  pub record IsDoneAt (tells : Bool) (o : Outcome) (r : Retired C O) : Type 0 where
+    pub setup : Setup
+    pub given : tells ≡ true → o ≡ Serving (lines_of setup)
+    pub is_done : IsTxnDone client origin both stock_transform setup PLACES r
+
+  -- What serving a net came to, and what that leaves of it.
+  pub record IsServedNet (tells net_tells : Bool) (shelf shelf' : ShelfSeen) (words : ServeWords) (n : ℕ)
+      (old new : NetSeen C O) : Type 0 where
+    -- each client that was handed over is one that the net gave, which has ended under the lines of the files
+    pub retired : net_tells ≡ true
+        → AreRetired (IsDoneAt tells (outcome_of shelf (Some (Serve words)))) old new
+    -- it gave no more than were asked for
+    pub few : new.given ≤ words.connections
+    -- the job was done: it gave as many as that, or is closed, and what is left of each was handed over
+    pub ended : n ≡ done
+        → HandsAllOver new × ((new.given ≡ words.connections) ⊎ Rose old.counts.ends new.counts.ends)
+    -- it failed, and what is left of each client that it gave was handed over
+    pub failed : n ≡ network → HandsAllOver new × Rose old.counts.faults new.counts.faults
+    -- where its files were not read, or not understood, the net was not used
+    pub untouched : IsFileStatus n → new ≡ old
+    -- where neither the shelf nor the net failed, the job was done, unless memory lacked
+    pub completes : tells ≡ true → IsServing (outcome_of shelf (Some (Serve words)))
+        → (Rose shelf.faults shelf'.faults → ⊥) → (Rose old.counts.faults new.counts.faults → ⊥)
+        → (n ≡ done) ⊎ (n ≡ out_of_memory)
+
+  -- What a task leaves of a net: one that does not serve it leaves it as it is.
+  abbrev pub LeavesNet : Bool → Bool → ShelfSeen → ShelfSeen → Option Task → ℕ → NetSeen C O → NetSeen C O
+      → Type 0
+  LeavesNet tells net_tells shelf shelf' (Some (Serve words)) n old new =
+      IsServedNet tells net_tells shelf shelf' words n old new
+  LeavesNet tells net_tells shelf shelf' _ n old new = new ≡ old
+
+-- what an answer of the part that serves says of the net
+abbrev pub EndsNet : {C O : Type 0} → Answer → ℕ → NetSeen C O → NetSeen C O → Type 0
+EndsNet a.Done most old new =
+    HandsAllOver new × ((new.given ≡ most) ⊎ Rose old.counts.ends new.counts.ends)
+EndsNet a.Network most old new = HandsAllOver new × Rose old.counts.faults new.counts.faults
+EndsNet a.OutOfMemory most old new = ⊤
+EndsNet _ most old new = ⊥
+
+-- what the part that serves leaves of a net: no more clients came than were to, and it says why it ended
+pub record IsNetLeft {C O : Type 0} (answer : Answer) (most : ℕ) (old new : NetSeen C O) : Type 0 where
+  pub few : new.given ≤ most
+  pub ended : EndsNet answer most old new

@@ -1,0 +1,117 @@
+//! The command `serve`: a net is served under a configuration, by event threads.
+ghost use Rattle.std.specs.Prelude.{◌≡◌, ◌<◌, ◌≤◌, Bool, true};
+ghost use Rattle.std.specs.Arc.{arc_value};
+ghost use Rattle.ts_link.specs.Seen.{SinkSeen};
+ghost use Rattle.ts_proxy.specs.Ends.{status_of};
+ghost use Rattle.ts_proxy.specs.Performed.{IsPerformed};
+ghost use Rattle.ts_proxy.specs.Serving.{IsNetLeft, IsServedNet};
+ghost use Rattle.ts_proxy.specs.Words.{Serve};
+ghost use Rattle.ts_replay.specs.Recorded.{HasPlainLines};
+ghost use Rattle.ts_serve.specs.Served.{AreRetired};
+ghost use Rattle.ts_serve.specs.Transactions.{IsTxnDone};
+ghost use Rattle.ts_serve.specs.declared.door.TheConstants.{PLACES};
+ghost use Rattle.ts_stock.specs.StockTransform.{stock_transform};
+ghost use Rattle.ts_thread.specs.declared.TheConstants.{MOST_THREADS};
+ghost use Rattle.ts_txn.specs.Net.{IsFreshNet};
+ghost use Rattle.ts_words.specs.Serve.{words_of};
+
+use crate::answer::{Answer, Performed};
+use crate::reading::set_up;
+use std::alloc::Global;
+use std::sync::{Arc, Wait};
+use std::thread::Threads;
+use ts_config::Setup;
+use ts_link::{Clock, Gate, Shelf};
+use ts_serve::{Served, serve_transactions};
+use ts_stock::Stock;
+use ts_txn::{Began, Net};
+use ts_words::ServeTask;
+
+// Serves a net that has begun to listen, under the lines of a configuration.
+fn serve_begun<N: Net, G: Gate + Sync, C: Clock + Sync, R: Threads + Wait + Sync>(
+    rt: &R,
+    alloc: Global,
+    task: &ServeTask<'_>,
+    setup: Arc<Setup>,
+    net: &mut N,
+    clock: &C,
+    gate: &G,
+) -> Answer
+    requires lines { HasPlainLines (arc_value setup) }
+    requires threads { (0 < task.now.threads) × (task.now.threads ≤ MOST_THREADS) }
+    requires net { IsFreshNet (N.seen net.old) }
+    ensures retired { N.tells ≡ true → AreRetired
+        (IsTxnDone N.Client.Link N.Origin.Link N.Origin.Upstream.own stock_transform (arc_value setup) PLACES)
+        (N.seen net.old) (N.seen net.new) }
+    ensures left { IsNetLeft result task.now.connections (N.seen net.old) (N.seen net.new) }
+{
+    match serve_transactions::<N, Stock, G, C, R>(
+        rt,
+        alloc,
+        setup,
+        task.threads,
+        task.connections,
+        gate,
+        clock,
+        net,
+    ) {
+        Served::Whole => Answer::Done,
+        Served::Failed => Answer::Network,
+        Served::NoMemory => Answer::OutOfMemory,
+    }
+}
+
+// Lets a net begin to listen, and serves it under the lines of a configuration.
+fn serve_net<N: Net, G: Gate + Sync, C: Clock + Sync, R: Threads + Wait + Sync>(
+    rt: &R,
+    alloc: Global,
+    task: &ServeTask<'_>,
+    setup: Setup,
+    net: &mut N,
+    clock: &C,
+    gate: &G,
+) -> Answer
+    requires lines { HasPlainLines setup }
+    requires threads { (0 < task.now.threads) × (task.now.threads ≤ MOST_THREADS) }
+    requires net { IsFreshNet (N.seen net.old) }
+    ensures retired { N.tells ≡ true → AreRetired
+        (IsTxnDone N.Client.Link N.Origin.Link N.Origin.Upstream.own stock_transform setup PLACES)
+        (N.seen net.old) (N.seen net.new) }
+    ensures left { IsNetLeft result task.now.connections (N.seen net.old) (N.seen net.new) }
+{
+    let Ok(setup) = Arc::new(alloc, setup) else {
+        return Answer::OutOfMemory;
+    };
+    match net.begin(task.listen, task.origin) {
+        Began::Ready => serve_begun(rt, alloc, task, setup, net, clock, gate),
+        Began::Failed => Answer::Network,
+        Began::NoMemory => Answer::OutOfMemory,
+    }
+}
+
+/// Serves a net under the lines of a configuration, which the shelf has under the name that is asked for, on
+/// so many event threads, which pass the gate. Nothing is written.
+pub fn perform_serve<S: Shelf, N: Net, G: Gate + Sync, C: Clock + Sync, R: Threads + Wait + Sync>(
+    rt: &R,
+    alloc: Global,
+    task: &ServeTask<'_>,
+    shelf: &mut S,
+    net: &mut N,
+    clock: &C,
+    gate: &G,
+) -> Performed
+    requires threads { (0 < task.now.threads) × (task.now.threads ≤ MOST_THREADS) }
+    requires net { IsFreshNet (N.seen net.old) }
+    ensures performed { (out_tells : Bool) (out : SinkSeen) → IsPerformed (Serve (words_of task.now))
+        S.tells out_tells (S.seen shelf.old) (S.seen shelf.new) out out result.answer result.journals.items }
+    ensures net { IsServedNet N.Client.Link N.Origin.Link N.Origin.Upstream.own S.tells N.tells
+        (S.seen shelf.old) (S.seen shelf.new) (words_of task.now) (status_of result.answer)
+        (N.seen net.old) (N.seen net.new) }
+{
+    let setup = match set_up(alloc, shelf, task.config) {
+        Ok(setup) => setup,
+        Err(answer) => return Performed::without(alloc, answer),
+    };
+    let answer = serve_net(rt, alloc, task, setup, net, clock, gate);
+    Performed::without(alloc, answer)
+}
