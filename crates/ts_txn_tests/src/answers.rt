@@ -1,26 +1,17 @@
 //! The proxy's own answers beside the lines of a configuration, and what a transaction tells of itself.
 
-use crate::exchange::{NUMBER, Told, run};
-use crate::lines::{FILE, STOCK};
-use crate::plan::giving;
-use crate::refusal::Refusal;
-use crate::row::{Finding, Row, check, check_block, get};
-use crate::stated::{
-    ABC, BAD_GATEWAY, BAD_REQUEST, GET, GET_SENT, HEAD, HEAD_SENT, NOT_IMPLEMENTED,
-};
 use std::alloc::Global;
 use std::test::Fail;
+use ts_exchange_tests::exchange::{NUMBER, Told, run};
+use ts_exchange_tests::plan::giving;
+use ts_exchange_tests::refusal::Refusal;
+use ts_exchange_tests::row::{Finding, Row, check, check_block, own};
+use ts_exchange_tests::stated::{
+    ABC, BAD_GATEWAY, BAD_REQUEST, GET, GET_SENT, HEAD, HEAD_SENT, NOT_IMPLEMENTED,
+};
+use ts_exchange_tests::stock::{FILE, STOCK};
 use ts_hooks::TxnEnd;
 use ts_wire::Mode;
-
-/// A client that is answered without an origin's response: the origin gives nothing.
-pub fn own<'a>(request: &'a [u8], sent: &'a [u8], head: &'a [u8], body: &'a [u8]) -> Row<'a> {
-    Row {
-        request,
-        sent,
-        ..get(b"", head, Mode::Plain, body)
-    }
-}
 
 // The answer to a page whose origin gives none to pass on, and the same to a request for the head alone.
 fn bad_gateways<'a>(

@@ -1,12 +1,14 @@
 //! Bodies that are cut or bad: the client gets a front, without an end.
 
-use crate::lines::{STOCK, html};
-use crate::plan::{dripping, dripping_after, giving};
-use crate::refusal::Refusal;
-use crate::row::{Finding, Row, check, check_at_once, check_between, chunked, get};
-use crate::stated::{ABC, ABC_FRONT, BAD_GATEWAY, CHUNKED, GET, IN_CHUNKS, SIZED, response};
 use std::alloc::Global;
 use std::test::Fail;
+use ts_exchange_tests::plan::{dripping, dripping_after, giving};
+use ts_exchange_tests::refusal::Refusal;
+use ts_exchange_tests::row::{Finding, Row, check, check_at_once, check_between, chunked, get};
+use ts_exchange_tests::stated::{
+    ABC, ABC_FRONT, BAD_GATEWAY, CHUNKED, GET, IN_CHUNKS, SIZED, response,
+};
+use ts_exchange_tests::stock::{STOCK, html};
 use ts_hooks::TxnEnd;
 use ts_wire::Mode;
 

@@ -1,16 +1,16 @@
 //! How long a body is and how it is framed for the client: by its length, in chunks, up to the close, or not
 //! at all.
 
-use crate::exchange::run;
-use crate::plan::giving;
-use crate::refusal::Refusal;
-use crate::row::{Finding, Row, check, get, head};
-use crate::stated::{
+use std::alloc::Global;
+use std::test::Fail;
+use ts_exchange_tests::exchange::run;
+use ts_exchange_tests::plan::giving;
+use ts_exchange_tests::refusal::Refusal;
+use ts_exchange_tests::row::{Finding, Row, check, get, head};
+use ts_exchange_tests::stated::{
     ABC, BAD_GATEWAY, CHUNKED, ENDLESS, ENDLESS_OLD, FROM_OLD, GET, IN_CHUNKS, PLAIN, SIZED,
     response,
 };
-use std::alloc::Global;
-use std::test::Fail;
 use ts_wire::Mode;
 
 // The head of the response of three bytes.

@@ -1,12 +1,12 @@
 //! Large bodies through as many lines as there may be.
 
 use crate::lines::SIXTEEN;
-use crate::plan::{Plan, giving};
-use crate::refusal::Refusal;
-use crate::row::{Finding, check_between, chunked};
-use crate::stated::{ENDLESS, GET, response};
 use std::alloc::Global;
 use std::test::Fail;
+use ts_exchange_tests::plan::{Plan, giving};
+use ts_exchange_tests::refusal::Refusal;
+use ts_exchange_tests::row::{Finding, check_between, chunked};
+use ts_exchange_tests::stated::{ENDLESS, GET, response};
 
 // More than a stage lets wait behind it.
 const PAST_A_BOUNDARY: usize = 65_537;

@@ -1,11 +1,11 @@
 //! Requests that the proxy answers by itself, and what the origin gets of the others.
 
-use crate::row::{Finding, Row, check, check_at_once, get};
-use crate::stated::{
-    ABC, BAD_GATEWAY, BAD_REQUEST, ENDLESS_OLD, FROM_OLD, NOT_IMPLEMENTED, PLAIN_OLD,
-};
 use std::alloc::Global;
 use std::test::Fail;
+use ts_exchange_tests::row::{Finding, Row, check, check_at_once, get};
+use ts_exchange_tests::stated::{
+    ABC, BAD_GATEWAY, BAD_REQUEST, ENDLESS_OLD, FROM_OLD, NOT_IMPLEMENTED, PLAIN_OLD,
+};
 use ts_wire::Mode;
 
 // A request that is refused: the origin, which would answer, gets nothing.

@@ -1,13 +1,14 @@
 //! Hook plugin lines: rules for the fields of heads, in their order and letter case, and denied hosts.
 
-use crate::exchange::{EndedTxn, run};
-use crate::lines::FILE;
-use crate::plan::giving;
-use crate::refusal::Refusal;
-use crate::row::{Finding, Row, check, get};
-use crate::stated::{ABC, FORBIDDEN, GET, GET_SENT, SIZED};
 use std::alloc::Global;
+use std::process::Abort;
 use std::test::Fail;
+use ts_exchange_tests::exchange::{EndedTxn, run};
+use ts_exchange_tests::plan::giving;
+use ts_exchange_tests::refusal::Refusal;
+use ts_exchange_tests::row::{Finding, Row, check, get};
+use ts_exchange_tests::stated::{ABC, FORBIDDEN, GET, GET_SENT, SIZED};
+use ts_exchange_tests::stock::FILE;
 use ts_wire::Mode;
 
 // A response that is passed on through these lines.
@@ -54,9 +55,8 @@ const TYPED_GATEWAY: &[u8] =
 const MORE_REQUEST: &[u8] =
     b"GET / HTTP/1.1\r\nhost: a\r\nx-a: 1\r\nvia: 1.1 tsx\r\nconnection: close\r\n\r\n";
 
-// Rules of one side and of both, in their order and in any letter case. Which transforms act is decided by
-// the head as the origin gave it.
-fn ruled() -> [Row<'static>; 12] {
+// A rule of one side puts a field into the heads of that side alone, in any letter case.
+fn of_one_side() -> [Row<'static>; 4] {
     [
         passed_on(
             b"header.so request set content-type x\n",
@@ -85,6 +85,12 @@ transfer-encoding: chunked\r\nconnection: close\r\n\r\n",
             GET_SENT,
             TYPED_GATEWAY,
         ),
+    ]
+}
+
+// Rules of both sides.
+fn of_both_sides() -> [Row<'static>; 3] {
+    [
         passed_on(
             b"header.so request add x-a 1\nheader.so response set content-type x\n",
             MORE_REQUEST,
@@ -97,6 +103,20 @@ transfer-encoding: chunked\r\nconnection: close\r\n\r\n",
             MORE_REQUEST,
             TYPED_GATEWAY,
         ),
+        passed_on(
+            b"header.so request add x-a 1\nheader.so response add x-b 2\nheader.so request remove X-A\n\
+header.so response remove X-B\n",
+            GET_SENT,
+            ABC,
+            SIZED,
+            Mode::Plain,
+        ),
+    ]
+}
+
+// Rules act in the order of their lines, and take all fields of their name away.
+fn in_order() -> [Row<'static>; 3] {
+    [
         passed_on(
             b"header.so response set X-A 1\nheader.so response add x-a 2\n",
             GET_SENT,
@@ -114,20 +134,18 @@ connection: close\r\n\r\n",
             Mode::Plain,
         ),
         passed_on(
-            b"header.so request add x-a 1\nheader.so response add x-b 2\nheader.so request remove X-A\n\
-header.so response remove X-B\n",
-            GET_SENT,
-            ABC,
-            SIZED,
-            Mode::Plain,
-        ),
-        passed_on(
             b"header.so response remove Server\n",
             GET_SENT,
             b"HTTP/1.1 200 OK\r\nServer: z\r\nX: y\r\nSERVER: w\r\nContent-Length: 3\r\n\r\nabc",
             b"HTTP/1.1 200 OK\r\nx: y\r\nvia: 1.1 tsx\r\ncontent-length: 3\r\nconnection: close\r\n\r\n",
             Mode::Plain,
         ),
+    ]
+}
+
+// Which transforms act is decided by the head as the origin gave it.
+fn beside_transforms() -> [Row<'static>; 2] {
+    [
         passed_on(
             b"append_transform.so f\nheader.so response set content-type text/html\n",
             GET_SENT,
@@ -150,12 +168,24 @@ transfer-encoding: chunked\r\nconnection: close\r\n\r\n",
     ]
 }
 
-#[test]
-fn rules_change_the_heads_of_their_side(rt: HostRuntime) -> Result<(), Fail> {
-    for (place, row) in ruled().iter().enumerate() {
-        assert_eq!(rt; check(rt.alloc(), row)?, Finding::AsStated, "row {place}");
+// Whether each of these rows comes out as stated.
+fn check_each(rt: &impl Abort, alloc: Global, rows: &[Row<'_>]) -> Result<(), Fail> {
+    for (place, row) in rows.iter().enumerate() {
+        assert_eq!(rt; check(alloc, row)?, Finding::AsStated, "row {place}");
     }
     Ok(())
+}
+
+#[test]
+fn rules_change_the_heads_of_their_side(rt: HostRuntime) -> Result<(), Fail> {
+    check_each(&rt, rt.alloc(), &of_one_side())?;
+    check_each(&rt, rt.alloc(), &of_both_sides())
+}
+
+#[test]
+fn rules_act_in_their_order_and_beside_transforms(rt: HostRuntime) -> Result<(), Fail> {
+    check_each(&rt, rt.alloc(), &in_order())?;
+    check_each(&rt, rt.alloc(), &beside_transforms())
 }
 
 // The lines, the client's Host, and whether it is denied.
@@ -221,25 +251,39 @@ fn a_denied_host_gets_nothing_of_an_origin(rt: HostRuntime) -> Result<(), Fail> 
 const FOUR: &[u8] = b"header.so response add x-a 1\ndenylist.so b\nheader.so request add x-b 2\n\
 header.so response add x-c 3\n";
 
-// The client's request, what the origin gives, and how often each plugin of these lines is asked.
-const ASKED: [(&[u8], &[u8], [u64; 4]); 4] = [
-    (GET, ABC, [1, 1, 1, 1]),
-    (GET, b"", [1, 1, 1, 1]),
-    (b"GET / HTTP/1.1\r\nHost: b\r\n\r\n", ABC, [1, 1, 0, 1]),
-    (b"GET\r\n\r\n", ABC, [1, 0, 0, 1]),
+// A deny list behind one of the same site.
+const TWICE: &[u8] = b"denylist.so b\ndenylist.so b\n";
+
+// A request for a host that these lines deny.
+const DENIED: &[u8] = b"GET / HTTP/1.1\r\nHost: b\r\n\r\n";
+
+// The lines, the client's request, what the origin gives, and how often each plugin of the lines is asked:
+// one behind a deny list that denied is not.
+const ASKED: [(&[u8], &[u8], &[u8], &[u64]); 6] = [
+    (FOUR, GET, ABC, &[1, 1, 1, 1]),
+    (FOUR, GET, b"", &[1, 1, 1, 1]),
+    (FOUR, DENIED, ABC, &[1, 1, 0, 1]),
+    (FOUR, b"GET\r\n\r\n", ABC, &[1, 0, 0, 1]),
+    (TWICE, GET, ABC, &[1, 1]),
+    (TWICE, DENIED, ABC, &[1, 0]),
 ];
 
 // How often each plugin of the lines was asked.
-fn asked_in(alloc: Global, request: &[u8], gives: &[u8]) -> Result<Vec<u64>, Refusal> {
-    let EndedTxn { asked, .. } = run(alloc, FOUR, b"", &giving(request), Some(giving(gives)))?;
+fn asked_in(
+    alloc: Global,
+    lines: &[u8],
+    request: &[u8],
+    gives: &[u8],
+) -> Result<Vec<u64>, Refusal> {
+    let EndedTxn { asked, .. } = run(alloc, lines, b"", &giving(request), Some(giving(gives)))?;
     Ok(asked)
 }
 
 #[test]
 fn each_plugin_is_asked_once_at_its_hook(rt: HostRuntime) -> Result<(), Fail> {
-    for (place, (request, gives, stated)) in ASKED.iter().enumerate() {
-        let asked = asked_in(rt.alloc(), request, gives)?;
-        assert_eq!(rt; asked.as_slice(), stated.as_slice(), "row {place}");
+    for (place, (lines, request, gives, stated)) in ASKED.iter().enumerate() {
+        let asked = asked_in(rt.alloc(), lines, request, gives)?;
+        assert_eq!(rt; asked.as_slice(), *stated, "row {place}");
     }
     Ok(())
 }

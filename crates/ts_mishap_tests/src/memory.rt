@@ -1,0 +1,85 @@
+//! Exchanges of which an allocation may be refused: each is whole, or ends for want of memory with a front of
+//! what is stated, and is whole when it is made again.
+
+use std::alloc::Global;
+use std::test::Fail;
+use ts_exchange_tests::plan::{dripping_after, giving};
+use ts_exchange_tests::refusal::Refusal;
+use ts_exchange_tests::row::{Finding, Row, get, judge, judge_front, own, run_row};
+use ts_exchange_tests::stated::{ABC, BAD_GATEWAY, GET, GET_SENT, SIZED};
+use ts_exchange_tests::stock::html;
+use ts_hooks::TxnEnd;
+use ts_link::MemLink;
+use ts_txn::TxnParts;
+use ts_wire::Mode;
+
+// The response of HTML in chunks, and how much of it is its head.
+const CHUNKS: &[u8] =
+    b"HTTP/1.1 200 OK\r\nContent-Type: text/html\r\nTransfer-Encoding: chunked\r\n\r\n3\r\nban\r\n3\r\n\
+ana\r\n0\r\n\r\n";
+
+const FRONT: u32 = 72;
+
+// What the origin gets of a request after a rule, and the client's head after another.
+const RULED_SENT: &[u8] =
+    b"GET / HTTP/1.1\r\nhost: a\r\nx-a: 1\r\nvia: 1.1 tsx\r\nconnection: close\r\n\r\n";
+
+const RULED: &[u8] = b"HTTP/1.1 200 OK\r\nx-b: 2\r\nvia: 1.1 tsx\r\ncontent-length: 3\r\n\
+connection: close\r\n\r\n";
+
+// Whether a transaction came out as stated, or lacked memory and gave a front.
+fn judge_spare(
+    alloc: Global,
+    row: &Row<'_>,
+    parts: &TxnParts<MemLink, MemLink>,
+) -> Result<Finding, Refusal> {
+    if parts.end != Some(TxnEnd::NoMemory) {
+        return judge(alloc, row, parts);
+    }
+    let front = judge_front(alloc, row, TxnEnd::NoMemory, parts)?;
+    Ok(match front {
+        Finding::AsStated => Finding::Lacks,
+        other => other,
+    })
+}
+
+// The same of an exchange whose origin gives this.
+fn check_spare(alloc: Global, row: &Row<'_>, gives: &[u8]) -> Result<Finding, Refusal> {
+    let origin = dripping_after(gives, FRONT);
+    let ended = run_row(alloc, row, &giving(GET), Some(origin))?;
+    judge_spare(alloc, row, &ended.parts)
+}
+
+// What comes of an exchange, and of the same again where memory lacked.
+fn check_again(alloc: Global, row: &Row<'_>, gives: &[u8]) -> Result<Finding, Refusal> {
+    match check_spare(alloc, row, gives) {
+        Ok(Finding::Lacks) => check_spare(alloc, row, gives),
+        Err(Refusal::NoMemory) => check_spare(alloc, row, gives),
+        other => other,
+    }
+}
+
+// With ample memory each exchange is whole. Run with each allocation refused in turn (`rt try --test
+// --fail-alloc N`, N from 1 on), one of them gives a front, or a call for it answers want of memory, and is
+// whole when it is made again. The four rows make some 415 allocations; with each of them refused the test
+// passed.
+#[test]
+fn an_exchange_is_whole_or_a_front(rt: HostRuntime) -> Result<(), Fail> {
+    let lines = b"drop.so n\nbnull_transform.so\nprepend.so <\nappend_transform.so f\nmap.so a o\n";
+    let ruled = Row {
+        lines: b"denylist.so b\nheader.so request set x-a 1\nheader.so response add x-b 2\n",
+        sent: RULED_SENT,
+        ..get(ABC, RULED, Mode::Plain, b"abc")
+    };
+    let rows: [(Row<'_>, &[u8]); 4] = [
+        (get(ABC, SIZED, Mode::Plain, b"abc"), ABC),
+        (ruled, ABC),
+        (html(lines, b"<booo<hr>"), CHUNKS),
+        (own(GET, GET_SENT, BAD_GATEWAY, b"502 Bad Gateway\n"), b""),
+    ];
+    for (place, (row, gives)) in rows.iter().enumerate() {
+        let verdict = check_again(rt.alloc(), row, gives);
+        assert_eq!(rt; verdict, Ok(Finding::AsStated), "row {place}");
+    }
+    Ok(())
+}

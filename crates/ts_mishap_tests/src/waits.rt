@@ -1,0 +1,248 @@
+//! Links that make their caller wait: the same texts, and a pause of 10 milliseconds for each such answer.
+
+use crate::journals::{last_made, last_moment, least_gap};
+use std::alloc::Global;
+use std::test::Fail;
+use ts_exchange_tests::exchange::EndedTxn;
+use ts_exchange_tests::plan::{Plan, dripping, dripping_after, giving};
+use ts_exchange_tests::refusal::Refusal;
+use ts_exchange_tests::row::{Finding, Row, get, judge, own, run_row};
+use ts_exchange_tests::stated::{ABC, BAD_GATEWAY, GET, GET_SENT, HEAD, SIZED};
+use ts_exchange_tests::stock::{HTML, HTML_FRONT, STOCK, html};
+use ts_journal::Entry;
+use ts_wire::Mode;
+
+// How long a link that was not ready is left alone, in milliseconds.
+const PAUSE: u64 = 10;
+
+// How many calls of a link wait in each of these runs.
+const WAITS: u64 = 2;
+
+// How often the links of a transaction made their caller wait.
+fn waits_of(ended: &EndedTxn) -> (u64, u64) {
+    let origin = match &ended.parts.origin {
+        Some(link) => link.waits(),
+        None => 0,
+    };
+    (ended.parts.client.waits(), origin)
+}
+
+// Whether a transaction came out as the row states, and its links waited so often.
+fn judge_waiting(
+    alloc: Global,
+    row: &Row<'_>,
+    ended: &EndedTxn,
+    waits: (u64, u64),
+) -> Result<Finding, Refusal> {
+    if waits_of(ended) != waits {
+        return Ok(Finding::OtherWaits);
+    }
+    judge(alloc, row, &ended.parts)
+}
+
+// The same, where one link waited twice and so made two pauses.
+fn judge_pauses(
+    alloc: Global,
+    row: &Row<'_>,
+    ended: &EndedTxn,
+    waits: (u64, u64),
+) -> Result<Finding, Refusal> {
+    if last_moment(ended.journal.entries()) != PAUSE * WAITS {
+        return Ok(Finding::OtherMoment);
+    }
+    judge_waiting(alloc, row, ended, waits)
+}
+
+// Whether a row comes out as stated where its links wait so often.
+fn check_waiting(
+    alloc: Global,
+    row: &Row<'_>,
+    client: &Plan<'_>,
+    origin: Plan<'_>,
+    waits: (u64, u64),
+) -> Result<Finding, Refusal> {
+    let ended = run_row(alloc, row, client, Some(origin))?;
+    judge_waiting(alloc, row, &ended, waits)
+}
+
+// Whether a row comes out as stated where one link waits twice, and so makes two pauses.
+fn check_pauses(
+    alloc: Global,
+    row: &Row<'_>,
+    client: &Plan<'_>,
+    origin: Option<Plan<'_>>,
+    waits: (u64, u64),
+) -> Result<Finding, Refusal> {
+    let ended = run_row(alloc, row, client, origin)?;
+    judge_pauses(alloc, row, &ended, waits)
+}
+
+#[test]
+fn a_client_that_waits_at_each_read(rt: HostRuntime) -> Result<(), Fail> {
+    let row = get(ABC, SIZED, Mode::Plain, b"abc");
+    for read in 1..=GET.len() as u64 {
+        let client = Plan {
+            again_reads: (read, read + 1),
+            ..dripping(GET)
+        };
+        let verdict = check_pauses(rt.alloc(), &row, &client, Some(dripping(ABC)), (WAITS, 0))?;
+        assert_eq!(rt; verdict, Finding::AsStated, "read {read}");
+    }
+    Ok(())
+}
+
+#[test]
+fn an_origin_that_waits_at_each_write(rt: HostRuntime) -> Result<(), Fail> {
+    let row = get(ABC, SIZED, Mode::Plain, b"abc");
+    for write in 1..=GET_SENT.len() as u64 {
+        let origin = Plan {
+            again_writes: (write, write + 1),
+            ..dripping(ABC)
+        };
+        let verdict = check_pauses(rt.alloc(), &row, &dripping(GET), Some(origin), (0, WAITS))?;
+        assert_eq!(rt; verdict, Finding::AsStated, "write {write}");
+    }
+    Ok(())
+}
+
+// How many writes of few bytes a client makes at least that gets a body.
+const WRITES: u64 = 8;
+
+// How many reads bring the head, and one byte of the body each.
+const READS: u64 = 7;
+
+#[test]
+fn a_client_that_waits_at_each_write(rt: HostRuntime) -> Result<(), Fail> {
+    let alloc = rt.alloc();
+    let origin = dripping_after(HTML, HTML_FRONT);
+    for (place, (lines, body)) in STOCK.iter().enumerate() {
+        let row = html(lines, body);
+        for write in 1..WRITES {
+            let client = Plan {
+                again_writes: (write, write + 1),
+                ..dripping_after(GET, 0)
+            };
+            let verdict = check_waiting(alloc, &row, &client, origin, (WAITS, 0))?;
+            assert_eq!(rt; verdict, Finding::AsStated, "line {place}, write {write}");
+        }
+    }
+    Ok(())
+}
+
+#[test]
+fn an_origin_that_waits_at_each_read(rt: HostRuntime) -> Result<(), Fail> {
+    let alloc = rt.alloc();
+    let client = dripping_after(GET, 0);
+    for (place, (lines, body)) in STOCK.iter().enumerate() {
+        let row = html(lines, body);
+        for read in 1..=READS {
+            let origin = Plan {
+                again_reads: (read, read + 1),
+                ..dripping_after(HTML, HTML_FRONT)
+            };
+            let verdict = check_waiting(alloc, &row, &client, origin, (0, WAITS))?;
+            assert_eq!(rt; verdict, Finding::AsStated, "line {place}, read {read}");
+        }
+    }
+    Ok(())
+}
+
+#[test]
+fn both_links_wait_at_each_call(rt: HostRuntime) -> Result<(), Fail> {
+    let alloc = rt.alloc();
+    for (place, (lines, body)) in STOCK.iter().enumerate() {
+        let row = html(lines, body);
+        for (write, read) in [(1, 1), (2, 2), (3, 7), (7, 1), (7, 3), (7, 7)] {
+            let client = Plan {
+                again_writes: (write, write + 1),
+                ..dripping_after(GET, 0)
+            };
+            let origin = Plan {
+                again_reads: (read, read + 1),
+                ..dripping_after(HTML, HTML_FRONT)
+            };
+            let verdict = check_waiting(alloc, &row, &client, origin, (WAITS, WAITS))?;
+            assert_eq!(rt; verdict, Finding::AsStated, "line {place}, {write}, {read}");
+        }
+    }
+    Ok(())
+}
+
+// Pauses while a body is passed on: each link by itself makes two of them.
+#[test]
+fn a_link_that_waits_is_left_alone_for_ten_milliseconds(rt: HostRuntime) -> Result<(), Fail> {
+    let alloc = rt.alloc();
+    let row = html(b"prepend.so <\n", b"<banana");
+    let (client, origin) = (dripping_after(GET, 0), dripping_after(HTML, HTML_FRONT));
+    for call in 1..=READS {
+        let late = Plan {
+            again_writes: (call, call + 1),
+            ..client
+        };
+        let verdict = check_pauses(alloc, &row, &late, Some(origin), (WAITS, 0))?;
+        assert_eq!(rt; verdict, Finding::AsStated, "write {call}");
+        let late = Plan {
+            again_reads: (call, call + 1),
+            ..origin
+        };
+        let verdict = check_pauses(alloc, &row, &client, Some(late), (0, WAITS))?;
+        assert_eq!(rt; verdict, Finding::AsStated, "read {call}");
+    }
+    Ok(())
+}
+
+#[test]
+fn a_client_that_waits_at_its_first_writes(rt: HostRuntime) -> Result<(), Fail> {
+    let page = own(GET, b"", BAD_GATEWAY, b"502 Bad Gateway\n");
+    let head = own(HEAD, b"", BAD_GATEWAY, b"");
+    for row in [page, head] {
+        let row = Row {
+            origin: None,
+            ..row
+        };
+        for plan in [dripping(row.request), giving(row.request)] {
+            let client = Plan {
+                again_writes: (1, 2),
+                ..plan
+            };
+            let verdict = check_pauses(rt.alloc(), &row, &client, None, (WAITS, 0))?;
+            assert_eq!(rt; verdict, Finding::AsStated);
+        }
+    }
+    Ok(())
+}
+
+// How long the stage of a line that pauses does nothing between two of its events, in milliseconds.
+const DELAY: u64 = 5;
+
+// Whether the continuation that was made last, that of the one stage, paused so long between its events.
+fn pauses(entries: &[Entry]) -> bool {
+    let Some(stage) = last_made(entries) else {
+        return false;
+    };
+    let (gap, count) = least_gap(entries, stage);
+    count >= 2 && gap >= Some(DELAY) && last_moment(entries) % DELAY == 0
+}
+
+// Whether a row comes out as stated, and its one stage paused.
+fn check_stage(
+    alloc: Global,
+    row: &Row<'_>,
+    client: &Plan<'_>,
+    origin: Plan<'_>,
+) -> Result<Finding, Refusal> {
+    let ended = run_row(alloc, row, client, Some(origin))?;
+    if pauses(ended.journal.entries()) {
+        return judge(alloc, row, &ended.parts);
+    }
+    Ok(Finding::OtherMoment)
+}
+
+#[test]
+fn a_stage_pauses_between_its_events(rt: HostRuntime) -> Result<(), Fail> {
+    let row = html(b"delay.so 5\n", b"banana");
+    let origin = dripping_after(HTML, HTML_FRONT);
+    let verdict = check_stage(rt.alloc(), &row, &dripping_after(GET, 0), origin)?;
+    assert_eq!(rt; verdict, Finding::AsStated);
+    Ok(())
+}
