@@ -11,7 +11,7 @@ use ts_config::{
 use ts_link::{NoMemory, Octets};
 
 /// Configurations, and what is printed of their readings.
-const READ: [(&[u8], &[u8]); 13] = [
+const READ: [(&[u8], &[u8]); 15] = [
     (b"", b""),
     (b"\n \t\n# nothing\n", b""),
     (
@@ -34,18 +34,21 @@ const READ: [(&[u8], &[u8]); 13] = [
         b"delay.so 60000\ndelay.so 0",
         b"delay.so 60000\ndelay.so 0\n",
     ),
+    (b"denylist.so a\n", b"denylist.so a\n"),
+    (
+        b"header.so response remove x-a\n",
+        b"header.so response remove x-a\n",
+    ),
 ];
 
 /// Configurations that are refused, with the first faulty line, counted from 1, and the rule that it breaks.
-const FAULTY: [(&[u8], u64, &str); 17] = [
+const FAULTY: [(&[u8], u64, &str); 15] = [
     (b"prepend.so \"a", 1, "quote"),
     (b"prepend.so \"a\"b", 1, "quote"),
     (b"map.so ab c", 1, "arguments"),
     (b"map.so 0x0A 0x20", 1, "arguments"),
     (b"map.so a", 1, "arguments"),
     (b"null_transform.so\nfoo.so\n", 2, "plugin"),
-    (b"denylist.so a\n", 1, "plugin"),
-    (b"header.so response remove x-a\n", 1, "plugin"),
     (b"limit.so 3\n", 1, "plugin"),
     (b"null_transform.so x", 1, "arguments"),
     (b"append_transform.so \"\"", 1, "arguments"),
@@ -69,13 +72,13 @@ fn reads_and_prints(rt: HostRuntime) -> Result<(), Fail> {
 }
 
 /// Holds what is printed of the configuration's reading against the text.
-fn check_printed(rt: &impl Abort, alloc: Global, text: &[u8], want: &[u8]) -> Result<(), Fail> {
+pub fn check_printed(rt: &impl Abort, alloc: Global, text: &[u8], want: &[u8]) -> Result<(), Fail> {
     let setup = read_config(alloc, text)?;
     prints(rt, alloc, &setup, want)
 }
 
 /// Holds what is printed of the lines against the text.
-pub fn prints(rt: &impl Abort, alloc: Global, setup: &Setup, want: &[u8]) -> Result<(), Fail>
+fn prints(rt: &impl Abort, alloc: Global, setup: &Setup, want: &[u8]) -> Result<(), Fail>
     requires { ComeFromText (lines_of setup.now) }
 {
     let printed = print_config(alloc, setup)?;
@@ -84,7 +87,7 @@ pub fn prints(rt: &impl Abort, alloc: Global, setup: &Setup, want: &[u8]) -> Res
 }
 
 /// The name of the rule that a faulty line breaks.
-pub fn rule_of(kind: ConfigKind) -> &'static str {
+fn rule_of(kind: ConfigKind) -> &'static str {
     match kind {
         ConfigKind::Text => "text",
         ConfigKind::Quote => "quote",
@@ -103,7 +106,8 @@ fn fault_of(alloc: Global, text: &[u8]) -> Result<(u64, &'static str), Fail> {
     }
 }
 
-fn check_fault(
+/// Holds the first faulty line and the rule that it breaks against these.
+pub fn check_fault(
     rt: &impl Abort,
     alloc: Global,
     text: &[u8],

@@ -1,10 +1,8 @@
 //! Rows of configurations with the lines of hook plugins: what is printed of their reading, or the first
 //! faulty line and its kind.
-use crate::configurations::{prints, repeated, rule_of};
+use crate::configurations::{check_fault, check_printed, repeated};
 use std::alloc::Global;
-use std::process::Abort;
 use std::test::Fail;
-use ts_config::{ConfigRefusal, read_setup};
 use ts_link::NoMemory;
 
 /// Configurations, and what is printed of their readings.
@@ -111,32 +109,6 @@ fn reads_and_prints(rt: HostRuntime) -> Result<(), Fail> {
     for (text, line, rule) in FAULTY {
         check_fault(&rt, rt.alloc(), text, line, rule)?;
     }
-    Ok(())
-}
-
-/// Holds what is printed of the configuration's reading against the text.
-fn check_printed(rt: &impl Abort, alloc: Global, text: &[u8], want: &[u8]) -> Result<(), Fail> {
-    let setup = read_setup(alloc, text)?;
-    prints(rt, alloc, &setup, want)
-}
-
-/// The first faulty line, and the rule that it breaks.
-fn fault_of(alloc: Global, text: &[u8]) -> Result<(u64, &'static str), Fail> {
-    match read_setup(alloc, text) {
-        Ok(_) => Err(Fail::from("it is read")),
-        Err(ConfigRefusal::Fault(fault)) => Ok((fault.line, rule_of(fault.kind))),
-        Err(ConfigRefusal::NoMemory) => Err(Fail::from(ConfigRefusal::NoMemory)),
-    }
-}
-
-fn check_fault(
-    rt: &impl Abort,
-    alloc: Global,
-    text: &[u8],
-    line: u64,
-    rule: &str,
-) -> Result<(), Fail> {
-    assert_eq!(rt; fault_of(alloc, text)?, (line, rule));
     Ok(())
 }
 

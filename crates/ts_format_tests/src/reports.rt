@@ -8,7 +8,7 @@ use std::process::Abort;
 use std::test::Fail;
 use ts_hooks::TxnEnd;
 use ts_link::{NoMemory, Octets};
-use ts_record::{REPORT_BEGIN, REPORT_END, ReportBlock, add_block, report_block};
+use ts_record::{REPORT_END, ReportBlock, add_block, begin_report, report_block};
 
 /// What an exchange came to that ended so.
 fn exchange(alloc: Global, end: TxnEnd) -> Result<ReportBlock, NoMemory>
@@ -44,7 +44,8 @@ body 4\n<abc\n";
     assert_eq!(rt; whole.bytes(), text.as_slice());
     check_length(&rt, rt.alloc(), 1, TxnEnd::Whole, 207)?;
     check_length(&rt, rt.alloc(), 1, TxnEnd::OriginCut, 193)?;
-    check_length(&rt, rt.alloc(), 4000, TxnEnd::OriginBad, 196)
+    check_length(&rt, rt.alloc(), 4000, TxnEnd::OriginBad, 196)?;
+    check_length(&rt, rt.alloc(), 1, TxnEnd::ClientFault, 194)
 }
 
 /// Holds the length of the report, with its first and its last line, of 13 and 5 bytes.
@@ -77,11 +78,11 @@ fn silent(alloc: Global) -> ReportBlock
 #[test]
 fn blocks_behind_one_another(rt: HostRuntime) -> Result<(), Fail> {
     let silent = silent(rt.alloc());
-    let mut report = Vec::from_slice(rt.alloc(), REPORT_BEGIN)?;
+    let mut report = begin_report(rt.alloc(), 2)?;
     add_block(&mut report, 1, &silent)?;
     add_block(&mut report, 2, &silent)?;
     report.extend_from_slice(REPORT_END)?;
-    let text = b"tsx-report 1\n\
+    let text = b"tsx-report 2\n\
 txn 1\nrequest 0\n\nend whole\nhead 0\n\nbody 0\n\n\
 txn 2\nrequest 0\n\nend whole\nhead 0\n\nbody 0\n\n\
 done\n";

@@ -1,16 +1,16 @@
 //! The two sides of a recorded transaction as links.
 use std::alloc::Global;
 use std::test::Fail;
-use ts_link::{Got, Link, NoMemory, Octets, Put};
+use ts_link::{Got, Link, NoMemory, Octets, Piece, Put};
 use ts_record::RecordedLink;
 use ts_upstream::{Uploaded, Upstream};
 
-/// A side of a recorded transaction that gives these two pieces.
+/// A side of a recorded transaction that gives these two pieces, and never leaves.
 fn side(alloc: Global, first: &[u8], second: &[u8]) -> Result<RecordedLink, NoMemory> {
     let mut pieces = Vec::new(alloc);
-    pieces.push(Octets::copy_of(alloc, first)?)?;
-    pieces.push(Octets::copy_of(alloc, second)?)?;
-    RecordedLink::make(alloc, pieces)
+    pieces.push(Piece::Bytes(Octets::copy_of(alloc, first)?))?;
+    pieces.push(Piece::Bytes(Octets::copy_of(alloc, second)?))?;
+    Ok(RecordedLink::make(alloc, pieces, None))
 }
 
 #[test]
@@ -38,6 +38,39 @@ fn a_side_keeps_what_it_takes(rt: HostRuntime) -> Result<(), Fail> {
     assert_eq!(rt; side.write(b"HTTP/1.1"), Put::Took(8));
     assert_eq!(rt; side.written(), b"GET / HTTP/1.1".as_slice());
     assert_eq!(rt; side.faults(), 0);
+    assert!(rt; !side.leaves());
+    Ok(())
+}
+
+#[test]
+fn a_side_waits_at_its_stalls(rt: HostRuntime) -> Result<(), Fail> {
+    let mut pieces = Vec::new(rt.alloc());
+    pieces.push(Piece::Stall(2))?;
+    pieces.push(Piece::Bytes(Octets::copy_of(rt.alloc(), b"ab")?))?;
+    pieces.push(Piece::Stall(1))?;
+    let mut side = RecordedLink::make(rt.alloc(), pieces, None);
+    let mut room = [0u8; 4];
+    assert_eq!(rt; side.read(&mut room), Got::Again);
+    assert_eq!(rt; side.read(&mut room), Got::Again);
+    assert_eq!(rt; side.read(&mut room), Got::Bytes(2));
+    assert_eq!(rt; side.read(&mut room), Got::Again);
+    assert_eq!(rt; side.read(&mut room), Got::End);
+    assert_eq!(rt; side.faults(), 0);
+    side.known();
+    Ok(())
+}
+
+#[test]
+fn a_side_that_leaves_takes_so_many_bytes(rt: HostRuntime) -> Result<(), Fail> {
+    let mut side = RecordedLink::make(rt.alloc(), Vec::new(rt.alloc()), Some(9));
+    assert!(rt; side.leaves());
+    assert_eq!(rt; side.write(b"HTTP/1"), Put::Took(6));
+    assert_eq!(rt; side.write(b".1 200 OK"), Put::Took(3));
+    assert_eq!(rt; side.faults(), 0);
+    assert_eq!(rt; side.write(b"200 OK"), Put::Failed);
+    assert_eq!(rt; side.write(b"OK"), Put::Failed);
+    assert_eq!(rt; side.faults(), 2);
+    assert_eq!(rt; side.written(), b"HTTP/1.1 ".as_slice());
     Ok(())
 }
 

@@ -4,8 +4,9 @@ use std::alloc::Global;
 use std::sync::Wait;
 use std::thread::Threads;
 use ts_journal::Journal;
-use ts_link::{Gate, MemShelf, MemSink, NoMemory, OpenGate};
+use ts_link::{Gate, MemShelf, MemSink, NoMemory, OpenGate, StepClock};
 use ts_proxy::run;
+use ts_txn::MemNet;
 
 /// The words that pass the body `b` through the configuration `c`.
 pub const TRANSFORM: &[&str] = &["transform", "c", "b"];
@@ -87,13 +88,17 @@ pub fn left_in<R: Threads + Wait + Sync, G: Gate + Sync>(
     for word in words {
         said.push(String::from_str(alloc, word)?)?;
     }
+    let mut net = MemNet::make(alloc, Vec::new(alloc), Vec::new(alloc), Vec::new(alloc));
+    let clock = StepClock::make(0);
     let ended = run(
         rt,
         alloc,
         said.as_slice(),
         &mut shelf,
+        &mut net,
         &mut out,
         &mut err,
+        &clock,
         gate,
     );
     Ok(Remains {

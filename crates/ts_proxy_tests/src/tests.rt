@@ -13,6 +13,7 @@ mod asking;
 mod bodies;
 mod framings;
 mod generating;
+mod leaving;
 mod orders;
 mod plugins;
 mod refusals;

@@ -190,7 +190,8 @@ const MOST_RUNS: usize = 20;
 
 // Each of as many transactions as there may be asks one deny list, whose sites are nearly the host.
 // On 8 threads some find its group held: the transaction waits then, and asks again by an event more. The
-// plugin answers each transaction once, and the report is the same.
+// plugin answers each transaction once, and the report is the same. That a miss is seen takes two processors
+// at least: on one of them a thread hardly ever stops within a turn.
 #[test]
 fn a_plugin_that_is_missed(rt: HostRuntime) -> Result<(), Fail> {
     let alloc = rt.alloc();

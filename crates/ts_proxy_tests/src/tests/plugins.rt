@@ -162,7 +162,7 @@ accept: Text/HTML\r\nvia: 1.1 tsx\r\nconnection: close\r\n\r\n",
     check_all(&rt, &rows.map(dripping))
 }
 
-// Which lines act on a body was decided before, by the head that the origin gave.
+// Rules act in the order of their lines, and on all fields of their name.
 #[test]
 fn rules_of_responses(rt: HostRuntime) -> Result<(), Fail> {
     let rows = [
@@ -194,6 +194,15 @@ header.so response add x-a c",
             b"HTTP/1.1 200 OK\r\nx-b: 1\r\nx-b: a, B\r\nx-a: c\r\nvia: 1.1 tsx\r\ncontent-length: 3\r\n\
 connection: close\r\n\r\n",
         ),
+    ];
+    check_all(&rt, &rows)?;
+    check_all(&rt, &rows.map(dripping))
+}
+
+// Which lines act on a body was decided before, by the head that the origin gave.
+#[test]
+fn rules_beside_transforms(rt: HostRuntime) -> Result<(), Fail> {
+    let rows = [
         got(
             b"append_transform.so f\nheader.so response set Content-Type text/html",
             1,

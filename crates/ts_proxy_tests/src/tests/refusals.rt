@@ -1,6 +1,6 @@
 //! Recordings that are refused, with the place behind the front that is right.
 
-use crate::command::{REPLAY, replayed};
+use crate::command::{ON_8, REPLAY, replayed};
 use crate::comparison::{Comparison, compare, stopped};
 use crate::recording::{at_once, recording_of};
 use crate::stated::{ABC, GET, LESS};
@@ -15,14 +15,16 @@ fn refused<R: Abort + AllocGlobal + Threads + Wait + Sync>(
     text: &[u8],
     offset: usize,
 ) -> Result<(), Fail> {
-    let left = replayed(rt, rt.alloc(), REPLAY, LESS, text)?;
     let line = format!(in rt.alloc(); "tsx: recording offset {offset}\n")?;
     let wanted = stopped(4, line.as_bytes());
-    assert_eq!(rt;
-        compare(&left, &wanted),
-        Comparison::AsStated,
-        "offset {offset}"
-    );
+    for words in [REPLAY, ON_8] {
+        let left = replayed(rt, rt.alloc(), words, LESS, text)?;
+        assert_eq!(rt;
+            compare(&left, &wanted),
+            Comparison::AsStated,
+            "offset {offset}"
+        );
+    }
     Ok(())
 }
 
@@ -40,7 +42,8 @@ fn fronts_of_a_recording(rt: HostRuntime) -> Result<(), Fail> {
 
 #[test]
 fn texts_that_are_no_recording(rt: HostRuntime) -> Result<(), Fail> {
-    refused(&rt, b"tsx-recording 2\n", 14)?;
+    refused(&rt, b"tsx-recording 2\n", 16)?;
+    refused(&rt, b"tsx-recording 3\n", 14)?;
     refused(&rt, b"tsx-recording 1\r\nend\n", 15)?;
     refused(&rt, b"tsx-recording 1\ntxn\nclient 0\n", 27)?;
     refused(&rt, b"tsx-recording 1\ntxn\nclient 40000\n", 31)?;
