@@ -19,6 +19,8 @@ MOST_CONFIGURATION = 1 << 20
 MOST_TEXT = 16384
 MOST_RECORDING = MOST_BODY_FILE = 64 << 20
 MOST_PIECE = 32768
+MOST_STALL, MOST_STALLED = 1000, 100000
+MOST_TAKEN = 64 << 20
 MOST_TRANSACTIONS = 4000
 MOST_TRANSFORMS, MOST_PLUGINS, MOST_SITES = 16, 64, 64
 MOST_DELAY = 60000
@@ -197,11 +199,18 @@ def read_config(text):
 # ---- the recording
 
 
+FIRST_LINES = (b"tsx-recording 1\n", b"tsx-recording 2\n")
+SIDES = (b"client", b"origin")
+
+
 class RecordingReader:
-    """A place in the bytes of a recording: what stands before it is the front of some recording."""
+    """A place in the bytes of a recording: what stands before it is the front of some recording. `room` is
+    how many reads may still wait at stalls."""
 
     def __init__(self, text):
         self.text, self.at = text, 0
+        self.version = 1 + FIRST_LINES.index(self.one_of(*FIRST_LINES))
+        self.room = MOST_STALLED if self.version == 2 else 0
 
     def refuse(self, more=0):
         raise Fault(4, b"recording offset %d" % (self.at + more))
@@ -214,20 +223,20 @@ class RecordingReader:
                 return word
         self.refuse(max(same_front(self.text, self.at, word) for word in words))
 
-    def length(self):
-        """The number of a piece's bytes, and its line feed."""
+    def number(self, most):
+        """A number from 1 to that, and its line feed."""
         end = self.at
-        while end < len(self.text) and is_length_front(self.text[self.at : end + 1]):
+        while end < len(self.text) and is_number_front(self.text[self.at : end + 1], most):
             end += 1
-        length = self.text[self.at : end]
+        number = self.text[self.at : end]
         self.at = end
-        if not length:
+        if not number:
             self.refuse()
         self.one_of(b"\n")
-        return int(length)
+        return int(number)
 
     def piece(self):
-        length = self.length()
+        length = self.number(MOST_PIECE)
         piece = self.text[self.at : self.at + length]
         if len(piece) < length:
             self.refuse(len(piece))
@@ -235,15 +244,26 @@ class RecordingReader:
         self.one_of(b"\n")
         return piece
 
+    def next_words(self, sides):
+        """The words that may begin the next line of a transaction, of which these sides may still send."""
+        stalls = [side + b"-stall " for side in sides] if self.room else []
+        return [*(side + b" " for side in sides), *stalls, *([b"leave "] if self.version == 2 else []), b"close\n"]
+
     def transaction(self):
-        """The bytes of the client and of the origin."""
-        sides = {b"client ": [], b"origin ": []}
-        words = [b"client ", b"origin ", b"close\n"]
-        while (word := self.one_of(*words)) != b"close\n":
-            sides[word].append(self.piece())
-            if word == b"origin ":
-                words = [b"origin ", b"close\n"]
-        return b"".join(sides[b"client "]), b"".join(sides[b"origin "])
+        """The bytes of the client and of the origin, and how many bytes the client takes, if it leaves."""
+        given, sides = {side: [] for side in SIDES}, SIDES
+        while (word := self.one_of(*self.next_words(sides))) not in (b"leave ", b"close\n"):
+            side = word.rstrip(b" ").removesuffix(b"-stall")
+            sides = SIDES[SIDES.index(side) :]
+            if word == side + b" ":
+                given[side].append(self.piece())
+            else:
+                self.room -= self.number(min(self.room, MOST_STALL))
+        leave = None
+        if word == b"leave ":
+            leave = self.number(MOST_TAKEN)
+            self.one_of(b"close\n")
+        return b"".join(given[b"client"]), b"".join(given[b"origin"]), leave
 
 
 def same_front(text, at, word):
@@ -254,13 +274,13 @@ def same_front(text, at, word):
     return count
 
 
-def is_length_front(digits):
-    return re.fullmatch(rb"[1-9][0-9]*", digits) is not None and int(digits) <= MOST_PIECE
+def is_number_front(digits, most):
+    return re.fullmatch(rb"[1-9][0-9]*", digits) is not None and int(digits) <= most
 
 
 def read_recording(text):
+    """The version of a recording and its transactions."""
     reader = RecordingReader(text)
-    reader.one_of(b"tsx-recording 1\n")
     transactions = []
     while True:
         has_room = len(transactions) < MOST_TRANSACTIONS
@@ -269,7 +289,7 @@ def read_recording(text):
         transactions.append(reader.transaction())
     if reader.at != len(text):
         reader.refuse()
-    return transactions
+    return reader.version, transactions
 
 
 # ---- heads
@@ -587,9 +607,17 @@ def counted(word, text):
     return b"%b %d\n%b\n" % (word, len(text), text)
 
 
-def report(config, texts, transactions):
-    blocks = (block(k, *outcome(*sides, config, texts)) for k, sides in enumerate(transactions, 1))
-    return b"tsx-report 1\n" + b"".join(blocks) + b"done\n"
+def outcome_of(transaction, config, texts):
+    """The same of a transaction of a recording: a client that leaves takes the front of a head."""
+    client, origin, leave = transaction
+    asked, end, head, body = outcome(client, origin, config, texts)
+    return (asked, end, head, body) if leave is None else (asked, "left", head[:leave], b"")
+
+
+def report(config, texts, version, transactions):
+    outcomes = (outcome_of(transaction, config, texts) for transaction in transactions)
+    blocks = (block(number, *outcome) for number, outcome in enumerate(outcomes, 1))
+    return b"tsx-report %d\n" % version + b"".join(blocks) + b"done\n"
 
 
 # ---- generated recordings
@@ -670,7 +698,7 @@ def read_setup(name):
 def replay(config_name, recording_name):
     """The report on a recording in a file, under the configuration in a file."""
     config, texts = read_setup(config_name)
-    return report(config, texts, read_recording(read_file(recording_name, MOST_RECORDING)))
+    return report(config, texts, *read_recording(read_file(recording_name, MOST_RECORDING)))
 
 
 def transform(config_name, body_name):

@@ -5,10 +5,12 @@ FORM_FAULTS = (AttributeError, KeyError, OverflowError, RecursionError, TypeErro
 
 
 class Exchange:
-    """The bytes of both sides. `rewritten` says that they were no HTTP/1.1 and are written as such here."""
+    """The bytes of both sides, and for how many milliseconds each paused before them. `rewritten` says that
+    they were no HTTP/1.1 and are written as such here."""
 
-    def __init__(self, client, origin, rewritten=False):
+    def __init__(self, client, origin, rewritten=False, client_pause=0, origin_pause=0):
         self.client, self.origin, self.rewritten = client, origin, rewritten
+        self.client_pause, self.origin_pause = client_pause, origin_pause
 
 
 class LeftOut(Exception):

@@ -2,6 +2,7 @@
 HTTP/1.1."""
 import base64
 import json
+import math
 import urllib.parse
 
 from . import wire
@@ -11,18 +12,19 @@ from .exchange import FORM_FAULTS, Exchange, LeftOut, octets
 DROPPED = {b"content-encoding", b"transfer-encoding", b"content-length", b"connection", b"keep-alive"}
 
 
-def exchanges(text):
-    """The exchanges of a HAR file in its order; in place of one that is left out, why."""
+def exchanges(text, pauses=False):
+    """The exchanges of a HAR file in its order, with their pauses or without; in place of one that is left
+    out, why."""
     for entry in json.loads(text.decode("utf-8-sig"))["log"]["entries"]:
         try:
-            yield exchange_of(entry)
+            yield exchange_of(entry, pauses)
         except LeftOut as reason:
             yield reason
         except FORM_FAULTS as fault:
             yield LeftOut(f"it is no entry of a HAR file: {fault!r}")
 
 
-def exchange_of(entry):
+def exchange_of(entry, pauses):
     request, response = entry["request"], entry["response"]
     url = urllib.parse.urlsplit(request["url"])
     if url.scheme not in ("http", "https"):
@@ -38,7 +40,13 @@ def exchange_of(entry):
     body = b"" if wire.has_no_body(status, method) else body_of(response["content"])
     answered = wire.message(status_line, response_fields(response, status, method, body), body)
     versions = (request.get("httpVersion", ""), response.get("httpVersion", ""))
-    return Exchange(asked, answered, rewritten=any(is_later(version) for version in versions))
+    is_rewritten = any(is_later(version) for version in versions)
+    return Exchange(asked, answered, is_rewritten, origin_pause=waited(entry) if pauses else 0)
+
+
+def waited(entry):
+    """For how many milliseconds the browser waited for the first byte of the answer."""
+    return max(0, math.ceil(entry.get("timings", {}).get("wait") or 0))
 
 
 def is_later(version):

@@ -1,6 +1,7 @@
 """Sessions as Traffic Server's traffic dump plugin writes them, and as Proxy Verifier reads them: JSON, or
 a part of YAML."""
 import json
+import re
 import urllib.parse
 
 from . import wire, yaml
@@ -8,23 +9,26 @@ from .exchange import FORM_FAULTS, Exchange, LeftOut, octets
 from .recording import MOST_BYTES
 
 LATER_VERSIONS = ("2", "2.0", "3", "3.0")
+DELAY = re.compile(r"([0-9]+) *(us|ms|s)")
+MICROSECONDS = {"us": 1, "ms": 1000, "s": 1000000}
 
 
-def exchanges(text):
-    """The exchanges of a file's sessions in their order; in place of one that is left out, why."""
+def exchanges(text, pauses=False):
+    """The exchanges of a file's sessions in their order, with their pauses or without; in place of one that is
+    left out, why."""
     written = text.decode("utf-8", "surrogateescape").lstrip("\ufeff")
     whole = json.loads(written) if written.lstrip().startswith("{") else yaml.read(written)
     for session in whole["sessions"]:
         for transaction in session.get("transactions") or []:
             try:
-                yield exchange_of(transaction)
+                yield exchange_of(transaction, pauses)
             except LeftOut as reason:
                 yield reason
             except FORM_FAULTS as fault:
                 yield LeftOut(f"it is no transaction of a session: {fault!r}")
 
 
-def exchange_of(transaction):
+def exchange_of(transaction, pauses):
     for side, missing in (("client-request", "no request"), ("server-response", "the origin was not asked")):
         if side not in transaction:
             raise LeftOut(f"it has no {side}: {missing}")
@@ -32,7 +36,11 @@ def exchange_of(transaction):
     request = Message(transaction["client-request"], everywhere)
     response = Message(transaction["server-response"], everywhere)
     asked, method = request.as_request()
-    return Exchange(asked, response.as_response(method), rewritten=request.is_later or response.is_later)
+    answered = response.as_response(method)
+    is_rewritten = request.is_later or response.is_later
+    if not pauses:
+        return Exchange(asked, answered, is_rewritten)
+    return Exchange(asked, answered, is_rewritten, request.pause(), response.pause())
 
 
 def path_of(url):
@@ -59,6 +67,13 @@ class Message:
 
     def names(self):
         return {name.lower() for name, _ in self.fields}
+
+    def pause(self):
+        """For how many milliseconds its side waits before it sends the message."""
+        found = DELAY.fullmatch(str(self.node.get("delay", "0ms")))
+        if found is None:
+            raise LeftOut("its delay is none")
+        return -(-int(found[1]) * MICROSECONDS[found[2]] // 1000)
 
     def as_request(self):
         """The bytes of a request, and its method."""
