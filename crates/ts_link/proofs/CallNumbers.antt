@@ -1,5 +1,5 @@
 -- What holds of calls by their numbers: how many may still wait, and when none goes wrong.
-use Rattle.std.proofs.Common.{◌≡◌, ℕ, ◌+◌, ◌<◌, ◌≤◌, List, [], ◌∷◌, Bool, true, false, refl, cond, arith, false-eqb}
+use Rattle.std.proofs.Common.{◌≡◌, ℕ, ◌+◌, ◌<◌, ◌≤◌, List, [], ◌∷◌, Bool, true, false, refl, ap, cond, arith, false-eqb}
 use Rattle.std.specs.List.{list_any}
 use Rattle.std.specs.Prelude.{◌==◌}
 use Rattle.ts_link.specs.Counts.{greatest, one_more}
@@ -47,6 +47,9 @@ none_listed made = none_by (made == greatest)
 
 pub no_mishap : (c : Numbered) → c.fail ≡ [] → c.again ≡ [] → mishap_at c ≡ Nothing
 no_mishap c f a = rw (f, a, none_listed c.made) refl
+
+pub none_wait : (c : Numbered) → c.again ≡ [] → waits_left c ≡ 0
+none_wait c a = ap (later c.made) a
 
 pub waits_by : (fails waits : Bool) → mishap_of fails waits ≡ Waits → waits ≡ true
 waits_by true waits e = let none : ⊥ = cc in absurd none

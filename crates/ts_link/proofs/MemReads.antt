@@ -14,8 +14,9 @@ use Rattle.ts_link.specs.declared.numbered.Mishap.{Mishap}
 use Rattle.ts_link.specs.declared.numbered.Mishap.TheVariants.{Nothing, Fails, Waits}
 use Rattle.ts_link.specs.declared.piece.Piece.{Piece}
 use Rattle.ts_link.specs.declared.piece.Piece.TheVariants.{Bytes, Stall}
-use Rattle.ts_link.proofs.CallNumbers.{waits_fall, waits_listed, no_mishap, waits_by}
-use Rattle.ts_link.proofs.PiecesAhead.{next_moves, next_ends, next_fills, next_stalls, next_sure, whole_by}
+use Rattle.ts_link.proofs.CallNumbers.{waits_fall, waits_listed, no_mishap, none_wait, waits_by}
+use Rattle.ts_link.proofs.PiecesAhead.{next_moves, next_ends, next_fills, next_stalls, whole_by}
+use Rattle.ts_link.proofs.StallsAhead.{here_waits, waits_here}
 
 -- the same list may take its own place
 pub same_replaces : (given left : List ℕ) → MayReplace given left left
@@ -57,6 +58,11 @@ waits_if false m n h = omega arith
 -- how many Again answers it has left
 abbrev agains_of : LinkState → ℕ
 agains_of s = stalled_reads s.input.ahead + waits_left s.reads + waits_left s.writes
+
+-- of a sure link all of them are at stalls
+agains_stalled : (s : LinkState) → IsSure (look_of s) → agains_of s ≡ stalled_reads s.input.ahead
+agains_stalled s h =
+    omega (arith, none_wait s.reads h.again_reads, none_wait s.writes h.again_writes)
 
 next_answers : (room : ℕ) (ps : List Piece) → got_failed (next_answer room ps) ≡ false
 next_answers room [] = refl
@@ -136,7 +142,15 @@ reads_by s room into Nothing e r some calls faults waits sound bytes =
         agains = waits_if (got_again answer) (agains_of s) (agains_of (read_state s room Nothing))
             (omega (arith, next_stalls room ahead fine.front, waits_fall s.reads calls));
       };
-      sure = λ h. (next_answers room ahead, λ still. next_sure room ahead (fine.stalls still));
+      sure = λ h.
+          let all : agains_of s ≡ stalled_reads ahead = agains_stalled s h in
+          let place : ℕ = length (given_of s.input) in (
+            next_answers room ahead,
+            (
+              waits_here room place (agains_of s) s.input.stalls ahead fine.front fine.stalls all,
+              here_waits room place (agains_of s) s.input.stalls ahead fine.front fine.stalls all,
+            ),
+          );
       told = λ _. record {
         before = bytes_of ahead;
         replaced = same_replaces (given_of s.input) (bytes_of ahead);

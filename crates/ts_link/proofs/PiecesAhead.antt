@@ -3,11 +3,12 @@
 use Rattle.std.proofs.Common.{get_or, leb-false, ◌≡◌, ℕ, zero, suc, ◌+◌, ◌-◌, ◌≤◌, ◌<◌, ◌++◌, min, List, [], ◌∷◌, length, take, drop, refl, sym, ap, subst, ◌∙◌, cond, false, append_assoc, arith}
 use Rattle.std.proofs.Math.Seq.{take-append_seam, drop-cons, take-nil, drop-nil}
 use Rattle.std.proofs.lemmas.List.{drop_all, drop-take, drop-drop, drop_min, take-take, length-take, take-append-drop, take-append-le, take_min, length-drop, length-append, append-nil}
-use Rattle.ts_link.specs.Inputs.{bytes_of, stalls_from, stalled_reads, from_next, cut_up, next_answer, next_ahead}
-use Rattle.ts_link.specs.InputView.{IsFront, IsSoundInput, HasNoStall, begun, front_cut, is_passed, seen_cut, seen_pieces}
+use Rattle.ts_link.specs.Inputs.{bytes_of, given_of, stalls_from, stalled_reads, from_next, cut_up, next_answer, next_ahead}
+use Rattle.ts_link.specs.InputView.{HasAhead, IsFront, IsSoundInput, begun, front_cut, is_passed, seen_cut, seen_pieces}
 use Rattle.ts_link.specs.LinkAnswers.{count_got, got_again, EndsWell, FillsSome}
 use Rattle.ts_link.specs.declared.piece.Piece.{Piece}
 use Rattle.ts_link.specs.declared.piece.Piece.TheVariants.{Bytes, Stall}
+use Rattle.ts_link.proofs.StallsAhead.{Parts, ahead_at, cut_stalls, pass_empty, pieces_pass}
 
 pub bytes-from_next : (ps : List Piece) → bytes_of (from_next ps) ≡ bytes_of ps
 bytes-from_next [] = refl
@@ -29,12 +30,6 @@ front-from_next (Bytes [] ∷ ps) = front-from_next ps
 front-from_next (Bytes (b ∷ bs) ∷ ps) = tt
 front-from_next (Stall zero ∷ ps) = front-from_next ps
 front-from_next (Stall (suc k) ∷ ps) = tt
-
-pub no_stall-from_next : (ps : List Piece) → HasNoStall ps → HasNoStall (from_next ps)
-no_stall-from_next [] h = tt
-no_stall-from_next (Bytes [] ∷ ps) h = no_stall-from_next ps h
-no_stall-from_next (Bytes (b ∷ bs) ∷ ps) h = h
-no_stall-from_next (Stall k ∷ ps) h = absurd h
 
 -- a read that goes well takes the bytes that it answers from the front of what is ahead
 pub next_moves : (room : ℕ) (ps : List Piece)
@@ -80,12 +75,6 @@ next_stalls room (Stall (suc k) ∷ ps) f =
     stalls-from_next (Stall (suc k - 1) ∷ ps) in
     omega arith
 
--- it does not wait where there is no stall
-pub next_sure : (room : ℕ) (ps : List Piece) → HasNoStall ps → got_again (next_answer room ps) ≡ false
-next_sure room [] h = refl
-next_sure room (Bytes bs ∷ ps) h = refl
-next_sure room (Stall k ∷ ps) h = absurd h
-
 -- what a list ends with, and all of it before that
 pub whole_by : (source before left : List ℕ) → source ≡ before ++ left
     → take (length source - length left) source ≡ before
@@ -97,10 +86,6 @@ whole_by source before left e =
 pub bytes-cut_up : (cuts bytes : List ℕ) → bytes_of (cut_up cuts bytes) ≡ bytes
 bytes-cut_up [] bytes = append-nil bytes
 bytes-cut_up (c ∷ cs) bytes = rw (bytes-cut_up cs (drop c bytes)) (take-append-drop c bytes)
-
-pub no_stall-cut_up : (cuts bytes : List ℕ) → HasNoStall (cut_up cuts bytes)
-no_stall-cut_up [] bytes = tt
-no_stall-cut_up (c ∷ cs) bytes = no_stall-cut_up cs (drop c bytes)
 
 -- a list that is given in pieces is sound
 pub sound_cut : (n : ℕ) (cuts : List ℕ) (at : ℕ) (bytes : List ℕ)
@@ -114,62 +99,28 @@ sound_cut n cuts at bytes =
     record {
       whole = rw (whole_by bytes (take at bytes) (bytes_of (from_next pieces)) e) (sym e);
       front = front-from_next pieces;
-      stalls = λ h. no_stall-from_next pieces (no_stall-cut_up (n ∷ cuts) (drop at bytes));
+      stalls = cut_stalls (length (given_of (seen_cut n cuts (drop at bytes) bytes))) (n ∷ cuts)
+          (drop at bytes);
     }
-
--- pieces are what was passed of them and what is left
-pub bytes-begun : (n : ℕ) (ps : List Piece)
-    → (before : List ℕ) × (bytes_of ps ≡ before ++ bytes_of (begun n ps))
-bytes-begun n [] = ([], refl)
-bytes-begun n (Bytes bs ∷ ps) = (
-  take n bs,
-  ap (λ xs. xs ++ bytes_of ps) (sym (take-append-drop n bs)) ∙
-      append_assoc (take n bs) (drop n bs) (bytes_of ps),
-)
-bytes-begun n (Stall k ∷ ps) = ([], refl)
-
-pub bytes-drop : (i : ℕ) (ps : List Piece)
-    → (before : List ℕ) × (bytes_of ps ≡ before ++ bytes_of (drop i ps))
-bytes-drop zero ps = ([], refl)
-bytes-drop (suc i) [] = ([], refl)
-bytes-drop (suc i) (Bytes bs ∷ ps) =
-    let r : (before : List ℕ) × (bytes_of ps ≡ before ++ bytes_of (drop i ps)) = bytes-drop i ps in
-    (bs ++ r.0, ap (λ xs. bs ++ xs) r.1 ∙ sym (append_assoc bs r.0 (bytes_of (drop i ps))))
-bytes-drop (suc i) (Stall k ∷ ps) = bytes-drop i ps
-
-pub no_stall-stalls : (at : ℕ) (ps : List Piece) → stalls_from at ps ≡ [] → HasNoStall ps
-no_stall-stalls at [] e = tt
-no_stall-stalls at (Bytes bs ∷ ps) e = no_stall-stalls (at + length bs) ps e
-no_stall-stalls at (Stall k ∷ ps) e = cc
-
-pub no_stall-drop : (i : ℕ) (ps : List Piece) → HasNoStall ps → HasNoStall (drop i ps)
-no_stall-drop zero ps h = h
-no_stall-drop (suc i) [] h = tt
-no_stall-drop (suc i) (Bytes bs ∷ ps) h = no_stall-drop i ps h
-no_stall-drop (suc i) (Stall k ∷ ps) h = absurd h
-
-pub no_stall-begun : (n : ℕ) (ps : List Piece) → HasNoStall ps → HasNoStall (begun n ps)
-no_stall-begun n [] h = tt
-no_stall-begun n (Bytes bs ∷ ps) h = h
-no_stall-begun n (Stall k ∷ ps) h = absurd h
 
 -- pieces that are given one after the other are sound
 pub sound_pieces : (n next : ℕ) (ps : List Piece) → IsSoundInput (seen_pieces n next ps)
 sound_pieces n next ps =
+    let stalls : List (ℕ × ℕ) = stalls_from 0 ps in
     let rest : List Piece = begun n (drop next ps) in
-    let dropped : (before : List ℕ) × (bytes_of ps ≡ before ++ bytes_of (drop next ps)) = bytes-drop next ps
-    in
-    let passed : (before : List ℕ) × (bytes_of (drop next ps) ≡ before ++ bytes_of rest) = bytes-begun n
-    (drop next ps) in
-    let before : List ℕ = dropped.0 ++ passed.0 in
-    let e : bytes_of ps ≡ before ++ bytes_of (from_next rest) =
-    rw (bytes-from_next rest) (dropped.1 ∙ ap (λ xs. dropped.0 ++ xs) passed.1 ∙ sym
-    (append_assoc dropped.0 passed.0 (bytes_of rest))) in
+    let parts : Parts stalls 0 ps rest = pieces_pass n next ps in
+    let before : List ℕ = parts.before in
+    let e : bytes_of ps ≡ before ++ bytes_of (from_next rest) = rw (bytes-from_next rest) parts.bytes in
+    let given : given_of (seen_pieces n next ps) ≡ before =
+    whole_by (bytes_of ps) before (bytes_of (from_next rest)) e in
+    let place : 0 + length before ≡ length (given_of (seen_pieces n next ps)) =
+    omega (arith, ap length given) in
     record {
-      whole = rw (whole_by (bytes_of ps) before (bytes_of (from_next rest)) e) (sym e);
+      whole = rw given (sym e);
       front = front-from_next rest;
-      stalls = λ h. no_stall-from_next rest (no_stall-begun n (drop next ps)
-          (no_stall-drop next ps (no_stall-stalls 0 ps h)));
+      stalls = subst (λ at. HasAhead stalls at (from_next rest)) place
+          (ahead_at stalls (0 + length before) (from_next rest)
+          (pass_empty stalls rest (0 + length before) parts.passes));
     }
 
 -- the bytes of a piece that was begun are its next ones

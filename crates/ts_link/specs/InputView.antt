@@ -1,6 +1,7 @@
 -- How the fields of a memory link's input are seen, and what holds of what is seen.
-use Rattle.std.specs.Prelude.{◌≡◌, ℕ, zero, suc, ◌-◌, ◌++◌, List, [], ◌∷◌, length, take, drop, Bool, nat_le, ⊤}
+use Rattle.std.specs.Prelude.{◌≡◌, ℕ, zero, suc, ◌-◌, ◌++◌, List, [], ◌∷◌, length, take, drop, Bool, nat_le, true, ⊤}
 use Rattle.ts_link.specs.Inputs.{Input, bytes_of, given_of, stalls_from, from_next, cut_up}
+use Rattle.ts_link.specs.Stalls.{stands_at, reads_beyond}
 use Rattle.ts_link.specs.declared.piece.Piece.{Piece}
 use Rattle.ts_link.specs.declared.piece.Piece.TheVariants.{Bytes, Stall}
 
@@ -44,18 +45,17 @@ IsFront (Bytes (b ∷ bs) ∷ ps) = ⊤
 IsFront (Stall zero ∷ ps) = ⊥
 IsFront (Stall (suc k) ∷ ps) = ⊤
 
--- none of the pieces is a stall
-abbrev pub HasNoStall : List Piece → Type 0
-HasNoStall [] = ⊤
-HasNoStall (Bytes bs ∷ ps) = HasNoStall ps
-HasNoStall (Stall k ∷ ps) = ⊥
+-- of all these stalls those that stand at this place or beyond it are the ones of the pieces ahead of it
+pub record HasAhead (stalls : List (ℕ × ℕ)) (place : ℕ) (ahead : List Piece) : Type 0 where
+  pub here : stands_at place (stalls_from place ahead) ≡ true → stands_at place stalls ≡ true
+  pub beyond : reads_beyond place stalls ≡ reads_beyond place (stalls_from place ahead)
 
--- what was given and what is ahead are the source, the first piece is not empty, and no stall comes from
--- nowhere
+-- what was given and what is ahead are the source, the first piece is not empty, and the stalls ahead are
+-- those of the source that were not passed
 pub record IsSoundInput (i : Input) : Type 0 where
   pub whole : given_of i ++ bytes_of i.ahead ≡ i.source
   pub front : IsFront i.ahead
-  pub stalls : i.stalls ≡ [] → HasNoStall i.ahead
+  pub stalls : HasAhead i.stalls (length (given_of i)) i.ahead
 
 -- whether so many bytes, or reads that wait, are all that a piece has
 abbrev pub is_passed : Piece → ℕ → Bool

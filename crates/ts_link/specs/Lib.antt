@@ -12,4 +12,5 @@ pub mod Numbered
 pub mod Seen
 pub mod Shelf
 pub mod Sink
+pub mod Stalls
 pub mod Texts

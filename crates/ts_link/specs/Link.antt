@@ -1,7 +1,8 @@
 -- What a contract sees of a link, one end of a connection, and what a read and a write of it do.
-use Rattle.std.specs.Prelude.{◌≡◌, ℕ, ◌<◌, ◌≤◌, ◌++◌, List, [], ◌∷◌, length, take, ⊤, Bool, true, false, Option, Some, None, IfSome, IsSomeAnd}
+use Rattle.std.specs.Prelude.{◌≡◌, ◌↔◌, ℕ, ◌<◌, ◌≤◌, ◌++◌, List, [], ◌∷◌, length, take, ⊤, Bool, true, false, Option, Some, None, IfSome, IsSomeAnd}
 use Rattle.ts_link.specs.Counts.{Counted, one_more}
 use Rattle.ts_link.specs.LinkAnswers.{got_failed, got_again, count_got, FillsSome, EndsWell, put_failed, put_again, count_put, PutsSome, writes_after}
+use Rattle.ts_link.specs.Stalls.{StallsAt}
 use Rattle.ts_link.specs.declared.link.Got.{Got}
 use Rattle.ts_link.specs.declared.link.Put.{Put}
 use Rattle.ts_link.specs.declared.link.Put.TheVariants as P
@@ -45,6 +46,10 @@ all_of l = l.given ++ l.left
 -- it tells its plan, and no call fails or waits by its number
 abbrev pub IsSure : Look → Type 0
 IsSure l = IsSomeAnd l.plan IsSurePlan
+
+-- a stall of its plan stands at the place that it has come to
+abbrev pub StallsHere : Look → Type 0
+StallsHere l = IsSomeAnd l.plan (λ p. IsSomeAnd l.agains (λ n. StallsAt (length l.given) n p.stalls))
 
 -- it waits nowhere in its source
 abbrev pub NeverStalls : Look → Type 0
@@ -103,9 +108,9 @@ pub record IsOneWrite (answer : Put) (old new : Look) : Type 0 where
   pub reads : new.reads ≡ old.reads
   pub writes : new.writes ≡ writes_after answer old.writes
 
--- a sure link reads on, but for its stalls
+-- a read of a sure link does not fail, and waits exactly where a stall stands
 abbrev pub ReadsSurely : Look → Bool → Bool → Type 0
-ReadsSurely old failed waited = IsSure old → (failed ≡ false) × (NeverStalls old → waited ≡ false)
+ReadsSurely old failed waited = IsSure old → (failed ≡ false) × (waited ≡ true ↔ StallsHere old)
 
 -- and writes on, until it has left
 abbrev pub WritesSurely : Look → Bool → Bool → Type 0

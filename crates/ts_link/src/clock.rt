@@ -1,4 +1,7 @@
 //! Clocks, which tell the moment in milliseconds.
+ghost use Rattle.std.specs.Prelude.{◌≡◌};
+
+use std::marker::Model;
 use std::sync::atomic::{AtomicU64, Ordering};
 
 /// How many milliseconds what was not to be had is tried again after: a link that waited, or a group that
@@ -18,24 +21,40 @@ pub trait Clock {
 /// each `pause`, modulo 2^64.
 #[derive(Drop)]
 pub struct StepClock {
-    moment: AtomicU64,
+    first: u64,
+    // How many milliseconds passed since.
+    passed: AtomicU64,
+}
+
+// A contract sees its first moment. What passed since stands in an atomic word, of which a contract sees
+// nothing.
+impl Model for StepClock {
+    ghost use Rattle.std.specs.Prelude.{ℕ};
+
+    ghost Value = { ℕ };
+
+    ghost view = { λ c. c.first };
 }
 
 impl StepClock {
     /// A clock whose first moment is `at`.
-    pub fn make(at: u64) -> StepClock {
+    pub fn make(at: u64) -> StepClock
+        ensures { result ≡ at }
+    {
         StepClock {
-            moment: AtomicU64::new(at),
+            first: at,
+            passed: AtomicU64::new(0),
         }
     }
 }
 
 impl Clock for StepClock {
     fn now(&self) -> u64 {
-        self.moment.fetch_add(1, Ordering::SeqCst)
+        let passed = self.passed.fetch_add(1, Ordering::SeqCst);
+        self.first.wrapping_add(passed)
     }
 
     fn pause(&self, ms: u64) {
-        self.moment.fetch_add(ms, Ordering::SeqCst);
+        self.passed.fetch_add(ms, Ordering::SeqCst);
     }
 }

@@ -1,4 +1,7 @@
 //! Gates, which an event thread passes before it runs a handler.
+ghost use Rattle.std.specs.Prelude.{◌≡◌};
+
+use std::marker::Model;
 use std::sync::atomic::{AtomicBool, AtomicU64, Ordering};
 use std::thread::yield_now;
 
@@ -68,9 +71,21 @@ pub struct MeetGate {
     one: Side,
 }
 
+// A contract sees for how many yields it waits. What it saw stands in atomic words, of which a contract sees
+// nothing.
+impl Model for MeetGate {
+    ghost use Rattle.std.specs.Prelude.{ℕ};
+
+    ghost Value = { ℕ };
+
+    ghost view = { λ g. g.limit };
+}
+
 impl MeetGate {
     /// A gate at which each of the two waits for at most `limit` yields.
-    pub fn make(limit: u64) -> MeetGate {
+    pub fn make(limit: u64) -> MeetGate
+        ensures { result ≡ limit }
+    {
         MeetGate {
             limit,
             zero: Side::new(),

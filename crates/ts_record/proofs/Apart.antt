@@ -1,5 +1,5 @@
 -- Which keywords no text can begin with at once.
-use Rattle.std.proofs.Common.{◌≡◌, ℕ, ◌⊎◌, inl, inr, List, ◌++◌, ap, sym, ◌∙◌, subst, refl, arith, get_or}
+use Rattle.std.proofs.Common.{◌≡◌, ℕ, ◌⊎◌, inl, inr, List, ◌++◌, ap, sym, ◌∙◌, refl, arith, get_or}
 use Rattle.ts_record.specs.Keywords.{keyword_text, header_of, piece_keyword, stall_keyword}
 use Rattle.ts_record.specs.declared.recording.TheConstants.{FIRST_VERSION, SECOND_VERSION}
 use Rattle.ts_record.specs.declared.keyword.Keyword.{Keyword}

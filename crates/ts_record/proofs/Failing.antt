@@ -14,9 +14,9 @@ use Rattle.ts_record.specs.Keywords.{keyword_text, piece_keyword, stall_keyword,
 use Rattle.ts_record.specs.Keywords.{keywords_behind}
 use Rattle.ts_record.specs.Refusing.{Stuck, BreaksOff, OneOf, IsPieceText, IsNumberText, stall_limit}
 use Rattle.ts_record.specs.Refusing.{ItemRefused}
-use Rattle.ts_record.specs.Refusing.{ItemsRefused, LeaveRefused, CloseRefused, LastRefused, InsideRefused}
-use Rattle.ts_record.specs.Refusing.{EndRefused, txns_before, AreDone, TxnRefused, TxnsRefused}
-use Rattle.ts_record.specs.declared.recording.TheConstants.{MOST_STALL, MOST_TAKEN, MOST_TXNS}
+use Rattle.ts_record.specs.Refusing.{ItemsRefused, LeaveRefused, CloseRefused, InsideRefused}
+use Rattle.ts_record.specs.Refusing.{EndRefused, txns_before, TxnRefused, TxnsRefused}
+use Rattle.ts_record.specs.declared.recording.TheConstants.{MOST_TAKEN, MOST_TXNS}
 use Rattle.ts_record.specs.declared.keyword.Keyword.{Keyword}
 use Rattle.ts_record.specs.declared.keyword.Keyword.TheVariants as k
 use Rattle.ts_record.specs.declared.keyword.Side.{Side}

@@ -1,5 +1,5 @@
 -- How a recording is generated, a step of each loop at a time.
-use Rattle.std.proofs.Common.{◌≡◌, ℕ, zero, suc, ◌+◌, ◌-◌, ◌%◌, ◌<◌, ◌≤◌, List, [], ◌∷◌, ◌++◌, length}
+use Rattle.std.proofs.Common.{◌≡◌, ℕ, zero, suc, ◌+◌, ◌-◌, ◌<◌, ◌≤◌, List, [], ◌∷◌, ◌++◌, length}
 use Rattle.std.proofs.Common.{take, drop}
 use Rattle.std.proofs.Common.{min, inl, refl, sym, ap, subst, ◌∙◌, arith, append_assoc}
 use Rattle.std.specs.List.{AllByRecursion}
@@ -111,10 +111,6 @@ first_piece x (b ∷ bs) some =
 pub record IsCutTo (x : ℕ) (bytes : List ℕ) (cut : List Piece) (y : ℕ) (left : List ℕ) : Type 0 where
   pub pieces_are : cut ++ pieces y left ≡ pieces x bytes
   pub state_is : after (length (pieces y left)) y ≡ after (length (pieces x bytes)) x
-
--- none is cut yet
-pub cut_none : (x : ℕ) (bytes : List ℕ) → IsCutTo x bytes [] x bytes
-cut_none x bytes = record { pieces_are = refl; state_is = refl }
 
 -- one piece more
 pub piece_more : (x y y' : ℕ) (bytes left left' piece : List ℕ) (cut cut' : List Piece) → 0 < length left

@@ -8,18 +8,16 @@ use Rattle.ts_link.specs.Inputs.{stalled_reads}
 use Rattle.ts_link.specs.declared.piece.Piece.{Piece}
 use Rattle.ts_link.specs.declared.piece.Piece.TheVariants.{Bytes, Stall}
 use Rattle.ts_lists.proofs.Elements.{each_push}
-use Rattle.ts_record.specs.Grammar.{TxnPieces, contents, piece_before, number_before, item_before}
+use Rattle.ts_record.specs.Grammar.{TxnPieces, piece_before, number_before, item_before}
 use Rattle.ts_record.specs.Grammar.{items_before}
-use Rattle.ts_record.specs.Grammar.{leave_before, inside_before, txns_text, IsItem, IsTxn, KeepsLimits}
+use Rattle.ts_record.specs.Grammar.{leave_before, inside_before, IsItem, IsTxn}
 use Rattle.ts_record.specs.Grammar.{stalls_in}
-use Rattle.ts_record.specs.Grammar.{stall_room}
 use Rattle.ts_record.specs.Keywords.{keyword_text, piece_keyword, stall_keyword}
 use Rattle.ts_record.specs.Refusing.{IsItemOf, txns_before, AreDone}
 use Rattle.ts_record.specs.declared.recording.TheConstants.{MOST_TXNS}
 use Rattle.ts_record.specs.declared.keyword.Keyword.TheVariants as k
 use Rattle.ts_record.specs.declared.keyword.Side.{Side}
 use Rattle.ts_record.specs.declared.keyword.Side.TheVariants as side
-use Rattle.ts_record.proofs.Apart.{IsVersion}
 
 -- ---- the pieces and stalls of a side
 
@@ -40,9 +38,6 @@ pub record AreRead (from : Side) (room : ℕ) (bytes : List ℕ) (items : List P
   pub each : AllByRecursion IsItem items
   pub stalls : left + stalled_reads items ≡ room
   pub text : bytes ≡ items_before from rest items
-
-pub none_read : (from : Side) (room : ℕ) (bytes : List ℕ) → AreRead from room bytes [] room bytes
-none_read from room bytes = record { each = tt; stalls = omega arith; text = refl }
 
 -- one more
 pub more_read : (from : Side) (room left reads left' : ℕ) (bytes rest behind : List ℕ) (i : Piece)
@@ -79,10 +74,6 @@ item_longer from behind (Stall n) =
       length-append (decimal n) (10 ∷ behind),
     )
 
-pub shorter_item : (from : Side) (room : ℕ) (rest behind : List ℕ) (i : Piece)
-    → IsItemOf from room rest i behind → length behind < length rest
-shorter_item from room rest behind i item = omega (arith, item_longer from behind i, ap length item.text)
-
 items_longer : (from : Side) (behind : List ℕ) (is : List Piece)
     → length behind ≤ length (items_before from behind is)
 items_longer from behind [] = omega arith
@@ -100,9 +91,6 @@ all_stalls_more : (t : TxnPieces) (ts : List TxnPieces)
     → stalls_in (ts ++ t ∷ []) ≡ stalls_in ts + stalls_in (t ∷ [])
 all_stalls_more t [] = omega arith
 all_stalls_more t (u ∷ us) = omega (arith, all_stalls_more t us)
-
-pub none_done : (version : ℕ) (bytes : List ℕ) → AreDone version [] (stall_room version) bytes bytes
-none_done version bytes = record { few = omega arith; each = tt; stalls = omega arith; bytes_are = refl }
 
 -- one more
 pub more_done : (version room left : ℕ) (bytes rest inside behind : List ℕ) (t : TxnPieces)
@@ -142,18 +130,3 @@ shorter_behind rest inside behind t opens text =
       items_longer side.Origin ends t.origin,
       items_longer side.Client (items_before side.Origin ends t.origin) t.client,
     )
-
--- the last line behind transactions
-txns_whole : (rest : List ℕ) (ts : List TxnPieces) → rest ≡ keyword_text k.End
-    → txns_before rest ts ≡ txns_text ts
-txns_whole rest [] is = is
-txns_whole rest (t ∷ ts) is = ap (λ x. keyword_text k.Txn ++ inside_before x t) (txns_whole rest ts is)
-
--- so all transactions are read
-pub all_done : (version room : ℕ) (bytes rest : List ℕ) (ts : List TxnPieces) → IsVersion version
-    → AreDone version ts room bytes rest → rest ≡ keyword_text k.End
-    → KeepsLimits (contents version ts) × (bytes ≡ txns_text ts)
-all_done version room bytes rest ts is_version d ends = (
-  record { version = is_version; few = d.few; each = d.each; stalls = omega (arith, d.stalls) },
-  d.bytes_are ∙ txns_whole rest ts ends,
-)

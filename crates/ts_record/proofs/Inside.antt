@@ -1,24 +1,19 @@
 -- What was read of a transaction, and where no keyword of one follows.
-use Rattle.std.proofs.Common.{◌≡◌, ℕ, ◌+◌, ◌<◌, zero, suc, inl, inr, List, [], ◌∷◌, ◌++◌, length, None, Some}
+use Rattle.std.proofs.Common.{◌≡◌, ℕ, zero, suc, inl, inr, List, [], ◌∷◌, ◌++◌, None, Some}
 use Rattle.std.proofs.Common.{Option}
-use Rattle.std.proofs.Common.{ap, sym, ◌∙◌, subst, refl, arith}
+use Rattle.std.proofs.Common.{ap, sym, ◌∙◌, subst, arith}
 use Rattle.std.specs.Option.{IfNone}
-use Rattle.ts_link.specs.Inputs.{stalled_reads}
 use Rattle.ts_link.specs.declared.piece.Piece.{Piece}
-use Rattle.ts_record.specs.Grammar.{TxnPieces, items_before, leave_before, inside_before, IsTxn, MayLeave}
-use Rattle.ts_record.specs.Grammar.{stalls_in}
-use Rattle.ts_record.specs.Keywords.{keyword_text, LacksKeyword, LacksAll, side_keywords, last_keywords}
+use Rattle.ts_record.specs.Grammar.{items_before, leave_before, MayLeave}
+use Rattle.ts_record.specs.Keywords.{LacksKeyword, LacksAll, side_keywords, last_keywords}
 use Rattle.ts_record.specs.Keywords.{keywords_behind_origin, keywords_inside}
-use Rattle.ts_record.specs.Refusing.{BreaksOff, OneOf, LacksItem, StopsItems, AreSides, LeaveRefused}
-use Rattle.ts_record.specs.Refusing.{StopsInside}
+use Rattle.ts_record.specs.Refusing.{BreaksOff, OneOf, LacksItem, AreSides}
 use Rattle.ts_record.specs.Refusing.{InsideRefused}
 use Rattle.ts_record.specs.declared.recording.TheConstants.{SECOND_VERSION}
 use Rattle.ts_record.specs.declared.keyword.Keyword.{Keyword}
 use Rattle.ts_record.specs.declared.keyword.Keyword.TheVariants as k
 use Rattle.ts_record.specs.declared.keyword.Side.{Side}
 use Rattle.ts_record.specs.declared.keyword.Side.TheVariants as side
-use Rattle.ts_record.specs.declared.items.PartRefusal.{PartRefusal}
-use Rattle.ts_record.specs.declared.items.PartRefusal.TheVariants as p
 use Rattle.ts_record.proofs.Apart.{IsVersion}
 use Rattle.ts_record.proofs.Growing.{AreRead}
 
@@ -56,17 +51,6 @@ stops_close version room left n bytes rest behind client origin leave keywords s
     }))
 
 -- ---- the keywords that were looked for
-
--- there is one that can come
-some_side : (from : Side) (room : ℕ) (ks : List Keyword) → 0 < length (side_keywords from room ++ ks)
-some_side from zero ks = omega arith
-some_side from (suc room) ks = omega arith
-
-pub some_inside : (version room : ℕ) (origin : List Piece) (leave : Option ℕ)
-    → 0 < length (keywords_inside version room origin leave)
-some_inside version room origin (Some m) = omega arith
-some_inside version room [] None = some_side side.Client room (keywords_behind_origin version room)
-some_inside version room (i ∷ is) None = some_side side.Origin room (last_keywords version)
 
 lacks_side : (from : Side) (room : ℕ) (bytes : List ℕ) (ks : List Keyword) → LacksItem from room bytes
     → LacksAll bytes ks → LacksAll bytes (side_keywords from room ++ ks)

@@ -1,37 +1,37 @@
--- What holds of a recorded side as it is made, and after each read and write of it.
-use Rattle.std.specs.Option.{is_some}
-use Rattle.std.proofs.Common.{◌≡◌, List, ℕ, ◌-◌, ◌<◌, [], length, take, Option, None, Some, true, false, refl}
-use Rattle.std.proofs.Common.{ap}
-use Rattle.std.proofs.Common.{◌∙◌, arith}
-use Rattle.ts_link.specs.Inputs.{bytes_of}
-use Rattle.ts_link.specs.MemLink.{LinkState, less}
+-- What holds of a recorded side as it is made.
+use Rattle.std.proofs.Common.{◌≡◌, List, ℕ, ◌+◌, [], ◌∷◌, length, Option, refl}
+use Rattle.std.proofs.Common.{ap, sym, subst, ◌∙◌, arith}
+use Rattle.ts_link.specs.Inputs.{stalled_reads, stalls_from, from_next}
+use Rattle.ts_link.specs.InputView.{begun}
+use Rattle.ts_link.specs.MemLink.{LinkState}
 use Rattle.ts_link.specs.declared.piece.Piece.{Piece}
-use Rattle.ts_record.specs.Links.{IsNewSide, GoesAsRecorded, recorded_side}
+use Rattle.ts_link.specs.declared.piece.Piece.TheVariants.{Bytes, Stall}
+use Rattle.ts_link.proofs.PiecesAhead.{stalls-from_next}
+use Rattle.ts_record.specs.Links.{GoesAsRecorded, recorded_side, stalled_in}
 
--- a link that leaves still does once it took some more
-pub still_leaves : (n : ℕ) (most : Option ℕ) → is_some (less n most) ≡ is_some most
-still_leaves n None = refl
-still_leaves n (Some m) = refl
+-- at the stalls of pieces as many reads wait as at the pieces
+stalled_all : (at : ℕ) (ps : List Piece) → stalled_in (stalls_from at ps) ≡ stalled_reads ps
+stalled_all at [] = refl
+stalled_all at (Bytes bs ∷ ps) = stalled_all (at + length bs) ps
+stalled_all at (Stall k ∷ ps) = ap (λ n. k + n) (stalled_all at ps)
 
-module _ (pieces : List Piece) (leave : Option ℕ) (l : LinkState) (is : l ≡ recorded_side pieces leave) where
-  pub goes_as_recorded : GoesAsRecorded l
-  goes_as_recorded = record {
-    fail_reads = ap (λ (s : LinkState). s.reads.fail) is;
-    again_reads = ap (λ (s : LinkState). s.reads.again) is;
-    fail_writes = ap (λ (s : LinkState). s.writes.fail) is;
-    again_writes = ap (λ (s : LinkState). s.writes.again) is;
-    failed = λ some. let none : l.faults ≡ 0 = ap (λ (s : LinkState). s.faults) is in
-        absurd (omega (arith, some, none));
-    waited = λ flows. ap (λ (s : LinkState). s.waits) is;
-  }
+-- and at pieces that were not begun as many
+stalled_begun : (ps : List Piece) → stalled_reads (begun 0 ps) ≡ stalled_reads ps
+stalled_begun [] = refl
+stalled_begun (Bytes bs ∷ ps) = refl
+stalled_begun (Stall k ∷ ps) = omega arith
 
-  pub new_side : bytes_of l.input.ahead ≡ bytes_of pieces → IsNewSide (bytes_of pieces) l
-  new_side all =
-      let source : l.input.source ≡ bytes_of pieces = ap (λ (s : LinkState). s.input.source) is in
-      let none : length l.input.source - length (bytes_of l.input.ahead) ≡ 0 =
-      let long = ap length source in let ahead = ap length all in omega (arith, long, ahead) in
-      record {
-        source = source;
-        no_given = ap (λ n. take n l.input.source) none;
-        no_taken = ap (λ (s : LinkState). s.taken) is;
-      }
+-- a new side did nothing yet
+pub goes_as_made : (pieces : List Piece) (leave : Option ℕ) (l : LinkState)
+    → l ≡ recorded_side pieces leave → GoesAsRecorded l
+goes_as_made pieces leave l is =
+    let ahead : stalled_reads (from_next (begun 0 pieces)) ≡ stalled_in (stalls_from 0 pieces) =
+    stalls-from_next (begun 0 pieces) ∙ stalled_begun pieces ∙ sym (stalled_all 0 pieces) in
+    subst GoesAsRecorded (sym is) (record {
+      fail_reads = refl;
+      again_reads = refl;
+      fail_writes = refl;
+      again_writes = refl;
+      failed = λ some. absurd (omega (arith, some));
+      waited = omega (arith, ahead);
+    })

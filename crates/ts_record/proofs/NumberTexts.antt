@@ -5,7 +5,6 @@ use Rattle.std.proofs.Common.{◌∙◌, subst, refl, arith, append_assoc}
 use Rattle.std.specs.Fmt.{decimal}
 use Rattle.std.specs.Str.Parse.{AllDigits}
 use Rattle.std.proofs.lemmas.Fmt.{digits_decimal, decimal_nonempty}
-use Rattle.ts_record.specs.Grammar.{number_before}
 use Rattle.ts_record.specs.Refusing.{Opens, Stuck, BreaksOff, IsNumberText, LacksFeed, DigitsStop, DigitsEnd}
 use Rattle.ts_record.proofs.Numbers.{own, longer_digits, digit_among, goes_on, are_digits}
 

@@ -1,6 +1,6 @@
 -- Which keywords can stand at each place of a recording, and that each of them can.
 use Rattle.std.specs.Prelude.{⊤, nat_lt}
-use Rattle.std.proofs.Common.{◌≡◌, ℕ, ◌+◌, ◌-◌, ◌<◌, ◌≤◌, zero, suc, inl, inr, List, [], ◌∷◌, ◌++◌, length}
+use Rattle.std.proofs.Common.{◌≡◌, ℕ, ◌-◌, ◌<◌, ◌≤◌, zero, suc, inl, inr, List, [], ◌∷◌, ◌++◌}
 use Rattle.std.proofs.Common.{None, Some}
 use Rattle.std.proofs.Common.{Bool, true, false, cond, ap, sym, ◌∙◌, subst, refl, arith}
 use Rattle.std.proofs.Math.Nat.{le-min}
@@ -9,7 +9,7 @@ use Rattle.ts_record.specs.Grammar.{piece_before, number_before, items_before, i
 use Rattle.ts_record.specs.Keywords.{keyword_text, headers, header_of, piece_keyword, stall_keyword}
 use Rattle.ts_record.specs.Keywords.{side_keywords, last_keywords, keywords_behind}
 use Rattle.ts_record.specs.Keywords.{keywords_behind_origin, keywords_behind_client}
-use Rattle.ts_record.specs.Refusing.{Opens, BreaksOff, OneOf, stall_limit}
+use Rattle.ts_record.specs.Refusing.{Opens, BreaksOff, OneOf}
 use Rattle.ts_record.specs.declared.recording.TheConstants.{MOST_TXNS, FIRST_VERSION, SECOND_VERSION}
 use Rattle.ts_record.specs.declared.keyword.Keyword.{Keyword}
 use Rattle.ts_record.specs.declared.keyword.Keyword.TheVariants as k

@@ -6,7 +6,7 @@ use Rattle.std.specs.Fmt.{decimal}
 use Rattle.std.proofs.Math.ListN.{replicate}
 use Rattle.std.proofs.lemmas.List.{length-replicate, append-nil}
 use Rattle.ts_lists.proofs.Fronts.{same_fronts}
-use Rattle.ts_record.specs.Grammar.{piece_before, IsRecordedPiece}
+use Rattle.ts_record.specs.Grammar.{IsRecordedPiece}
 use Rattle.ts_record.specs.Refusing.{Opens, Stuck, BreaksOff, IsPieceText, LacksFeed, DigitsEnd}
 use Rattle.ts_record.specs.declared.recording.TheConstants.{MOST_PIECE}
 use Rattle.ts_record.proofs.NumberTexts.{BeginWithNumber}

@@ -1,7 +1,7 @@
 -- The texts that can stand at each place of a recording.
-use Rattle.std.proofs.Common.{◌≡◌, ℕ, ◌+◌, ◌-◌, ◌<◌, ◌≤◌, suc, List, [], ◌∷◌, ◌++◌, length, None, Some, ap}
+use Rattle.std.proofs.Common.{◌≡◌, ℕ, ◌+◌, ◌<◌, ◌≤◌, suc, List, [], ◌∷◌, ◌++◌, length, None, Some}
 use Rattle.std.proofs.Common.{sym, ◌∙◌}
-use Rattle.std.proofs.Common.{subst, refl, arith, lit≤, Option}
+use Rattle.std.proofs.Common.{refl, arith, lit≤, Option}
 use Rattle.std.specs.List.{AllByRecursion}
 use Rattle.ts_link.specs.Inputs.{stalled_reads}
 use Rattle.ts_link.specs.declared.piece.Piece.{Piece}

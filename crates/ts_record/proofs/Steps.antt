@@ -1,7 +1,7 @@
 -- What can stand behind a keyword, a piece or a number, where it was read at each place of a recording.
-use Rattle.std.proofs.Common.{◌≡◌, ℕ, ◌+◌, ◌-◌, ◌<◌, ◌≤◌, ◌^◌, suc, List, [], ◌∷◌, ◌++◌, length, None, Some}
+use Rattle.std.proofs.Common.{◌≡◌, ℕ, ◌-◌, ◌<◌, ◌≤◌, ◌^◌, suc, List, [], ◌∷◌, ◌++◌, None, Some}
 use Rattle.std.proofs.Common.{ap, sym}
-use Rattle.std.proofs.Common.{◌∙◌, subst, refl, arith, min}
+use Rattle.std.proofs.Common.{◌∙◌, subst, refl, arith}
 use Rattle.std.specs.List.{AllByRecursion}
 use Rattle.std.proofs.Math.Nat.{min-le_left, min-le_right, le-min}
 use Rattle.std.proofs.lemmas.List.{append_cancel_left}
@@ -16,10 +16,10 @@ use Rattle.ts_record.specs.declared.keyword.Keyword.{Keyword}
 use Rattle.ts_record.specs.declared.keyword.Keyword.TheVariants as k
 use Rattle.ts_record.specs.declared.keyword.Side.{Side}
 use Rattle.ts_record.specs.declared.keyword.Side.TheVariants as side
-use Rattle.ts_record.proofs.Apart.{Differ, DifferFrom, IsVersion, same_version, stall_not_piece}
+use Rattle.ts_record.proofs.Apart.{DifferFrom, IsVersion, same_version, stall_not_piece}
 use Rattle.ts_record.proofs.Apart.{piece_not_stall}
 use Rattle.ts_record.proofs.Apart.{close_not_leave, end_not_txn}
-use Rattle.ts_record.proofs.Places.{Recordings, Txns, Closes, Lasts, Items, Origins, Clients, PieceTexts}
+use Rattle.ts_record.proofs.Places.{Recordings, Txns, Closes, Lasts, Items, Clients, PieceTexts}
 use Rattle.ts_record.proofs.Places.{NumberTexts, Nothing, AreApart, no_items}
 use Rattle.ts_record.proofs.Same.{same_piece, same_count}
 use Rattle.ts_record.proofs.Texts.{piece_behind, number_behind}

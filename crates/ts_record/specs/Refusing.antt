@@ -1,6 +1,6 @@
 -- What the parts of the reader say of bytes that they refuse: what was read before, and what can follow that.
 use Rattle.std.specs.Prelude.{◌≡◌, ℕ, ◌+◌, ◌*◌, ◌-◌, ◌<◌, ◌≤◌, ◌⊎◌, List, [], ◌∷◌, ◌++◌, length, min}
-use Rattle.std.specs.Prelude.{Option, None, Some, ⊤}
+use Rattle.std.specs.Prelude.{Option, ⊤}
 use Rattle.std.specs.List.{AllByRecursion}
 use Rattle.std.specs.Char.{digit_value}
 use Rattle.std.specs.Fmt.{decimal}
@@ -13,7 +13,7 @@ use Rattle.ts_record.specs.Grammar.{stalls_in, stall_room}
 use Rattle.ts_record.specs.Keywords.{keyword_text, piece_keyword, stall_keyword, keywords_inside}
 use Rattle.ts_record.specs.Keywords.{keywords_behind}
 use Rattle.ts_record.specs.Keywords.{LacksKeyword}
-use Rattle.ts_record.specs.declared.recording.TheConstants.{BASE, MOST_PIECE, MOST_STALL, MOST_TAKEN}
+use Rattle.ts_record.specs.declared.recording.TheConstants.{BASE, MOST_STALL, MOST_TAKEN}
 use Rattle.ts_record.specs.declared.recording.TheConstants.{MOST_TXNS}
 use Rattle.ts_record.specs.declared.recording.TheConstants.{SECOND_VERSION}
 use Rattle.ts_record.specs.declared.recording.RecordingRefusal.{RecordingRefusal}

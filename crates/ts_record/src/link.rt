@@ -1,10 +1,10 @@
 //! The two sides of a recorded transaction as links.
-ghost use Rattle.std.specs.Prelude.{◌≡◌, Some, true, false, ⊤};
+ghost use Rattle.std.specs.Prelude.{◌≡◌, ◌<◌, Some, length, true, false, ⊤};
 ghost use Rattle.std.proofs.Common.{arith};
 ghost use Rattle.std.specs.Option.{is_some};
-ghost use Rattle.ts_link.specs.Inputs.{bytes_of};
-ghost use Rattle.ts_link.specs.Link.{all_of};
-ghost use Rattle.ts_link.specs.MemLink.{look_of};
+ghost use Rattle.ts_link.specs.Inputs.{bytes_of, next_answer};
+ghost use Rattle.ts_link.specs.Link.{Reads, Writes, all_of};
+ghost use Rattle.ts_link.specs.MemLink.{IsPut, after_read, after_write, look_of, write_answer};
 ghost use Rattle.ts_record.specs.Links.{GoesAsRecorded, IsNewSide, recorded_side};
 
 use std::alloc::Global;
@@ -80,11 +80,23 @@ impl Link for RecordedLink {
 
     ghost goes = { λ a b. ⊤ };
 
-    fn read(&mut self, into: &mut [u8]) -> Got {
+    fn read(&mut self, into: &mut [u8]) -> Got
+        requires { 0 < length into.old }
+        ensures reads { Reads true (look_of self.old) (look_of self.new) result into.new }
+        ensures goes { ⊤ }
+        ensures answer { result ≡ next_answer (length into.old) self.old.input.ahead }
+        ensures after { self.new ≡ after_read self.old (length into.old) result }
+    {
         self.link.read(into)
     }
 
-    fn write(&mut self, piece: &[u8]) -> Put {
+    fn write(&mut self, piece: &[u8]) -> Put
+        requires { 0 < length piece.now }
+        ensures writes { Writes true (look_of self.old) (look_of self.new) result piece.now }
+        ensures goes { ⊤ }
+        ensures answer { IsPut result (write_answer self.old (length piece.now)) }
+        ensures after { self.new ≡ after_write self.old piece.now result }
+    {
         self.link.write(piece)
     }
 
