@@ -316,7 +316,8 @@ module _ {C O : Type 0} (client : link.Ghosts C) (origin : link.Ghosts O) (both 
       leads = made.leads;
       fact = made.fact;
       owes = owes_before (P.RuleRequest q 0 fields) (P.SendRequestHdr q) s (follows s.phase made.owes.follows)
-          made.owes.minds (λ leaves. record { origin = tt; client = leaves.client }) (λ has. tt) made.owes;
+          made.owes.minds (λ leaves. record { origin = leaves.origin; client = leaves.client }) (λ has. tt)
+          made.owes;
       falls = λ told also. falls_then s.next _ _ _ (request_asked (arc_value t.setup)
           (view_of client origin t) (upload_of both t) q fields) (made.falls told also);
     }

@@ -23,9 +23,8 @@ use Rattle.ts_phases.specs.Moving.{LowersUpload, MovesUpload, SeeksRequest, Seek
 use Rattle.ts_phases.specs.Moving.{QueuesRequest, WritesClient}
 use Rattle.ts_phases.specs.Moving.{LowersUpload, MovesUpload, WritesOrigin}
 use Rattle.ts_phases.specs.Owed.{IsBadGateway, MayFollow, StepOwes}
-use Rattle.ts_phases.specs.Steps.{UploadLeads, AnswersOriginFault, ClosesForClientFault, LeavesClientIn}
-use Rattle.ts_phases.specs.Steps.{LeavesOriginIn}
-use Rattle.ts_phases.specs.Steps.{MindsLinks, MindsLinksIn, WaitsRightly}
+use Rattle.ts_phases.specs.Steps.{AnswersOriginFault, ClosesForClientFault, MindsLinks, MindsLinksIn}
+use Rattle.ts_phases.specs.Steps.{UploadLeads, WaitsRightly}
 use Rattle.ts_phases.specs.View.{View, refuses_if, upload_of, view_of}
 use Rattle.ts_phases.specs.declared.head_reader.Found.{Found}
 use Rattle.ts_phases.specs.declared.head_reader.Found.TheVariants as F
@@ -41,27 +40,15 @@ use Rattle.ts_phases.proofs.Causes.{closes_cause, counts_kept, heard_kept, own_k
 use Rattle.ts_phases.proofs.Causes.{request_cause, sent_kept, still_kept, told_kept, upload_cause}
 use Rattle.ts_phases.proofs.Causes.{upload_kept}
 use Rattle.ts_phases.proofs.OneSide.{read_failed, write_failed}
-use Rattle.ts_phases.proofs.Leaving.{asked_leaves, heard_leaves, queued_leaves, still_leaves, wrote_leaves}
+use Rattle.ts_phases.proofs.Leaving.{asked_leaves, heard_leaves, leaves_in, moves_outbox, queued_leaves}
+use Rattle.ts_phases.proofs.Leaving.{queues_behind, still_leaves, takes_upload, wrote_leaves}
 use Rattle.ts_phases.proofs.Minding.{client_left, found_again, found_failed, full_client, full_origin}
 use Rattle.ts_phases.proofs.Minding.{heard_request, heard_response, late_client, late_origin, lost_client}
 use Rattle.ts_phases.proofs.Minding.{lost_origin, origin_left, queued_own, queued_request}
 use Rattle.ts_phases.proofs.Minding.{wrote_client, wrote_origin}
-use Rattle.ts_phases.proofs.Sparing.{asked_spares, held_spares, queued_spares, sent_spares, still_spares}
-use Rattle.ts_phases.proofs.Sparing.{wrote_spares}
+use Rattle.ts_phases.proofs.Sparing.{asked_gives, asked_spares, held_spares, queued_spares, sent_spares}
+use Rattle.ts_phases.proofs.Sparing.{spares_in, still_spares, upload_reads, wrote_spares}
 use Rattle.ts_phases.proofs.Waiting.{asked_waits, client_waits, heard_waits, origin_waits}
-
--- where nothing moved, nothing is sent to the origin and nothing is read of the client
-origin_stays : (v : View) (p : Phase) → LeavesOriginIn p v v
-origin_stays v (P.SendRequestHdr q) = tt
-origin_stays v (P.RuleRequest q place fields) = tt
-origin_stays v (P.SendRequest q) = tt
-origin_stays v (P.Upload q) = tt
-origin_stays v _ = still_leaves v v refl
-
-client_stays : (v : View) (p : Phase) → LeavesClientIn p v v
-client_stays v P.ReadRequest = tt
-client_stays v (P.Upload q) = tt
-client_stays v _ = still_spares v v refl
 
 -- a transaction keeps what it is
 all_kept : {C O : Type 0} (client : link.Ghosts C) (origin : link.Ghosts O) (both : upstream.Ghosts O C)
@@ -116,10 +103,8 @@ module _ {C O : Type 0} {client : link.Ghosts C} {origin : link.Ghosts O} {both 
     causes = stands_on (before keeps) (after keeps) p s.phase (still_kept (before keeps) (after keeps) same)
         (λ has ends. subst (λ (x : View). EndsForCause x s.phase) (sym same) (cause ends));
     leaves = λ told also. record {
-      origin = subst (λ (x : View). LeavesOriginIn p (before keeps) x) (sym same)
-          (origin_stays (before keeps) p);
-      client = subst (λ (x : View). LeavesClientIn p (before keeps) x) (sym same)
-          (client_stays (before keeps) p);
+      origin = leaves_in (before keeps) (after keeps) p (still_leaves (before keeps) (after keeps) same);
+      client = spares_in (before keeps) (after keeps) p (still_spares (before keeps) (after keeps) same);
     };
     keeps = keeps;
   }
@@ -137,9 +122,8 @@ module _ {C O : Type 0} {client : link.Ghosts C} {origin : link.Ghosts O} {both 
     causes = stands_on (before keeps) (after keeps) P.ReadRequest s.phase
         (asked_kept (before keeps) (after keeps) client.tells found hears) (λ has ends. cause has);
     leaves = λ told also. record {
-      origin = asked_leaves (before keeps) (after keeps) client.tells found
-          hears;
-      client = tt;
+      origin = asked_leaves (before keeps) (after keeps) client.tells found hears;
+      client = asked_gives (before keeps) (after keeps) client.tells found told hears;
     };
     keeps = keeps;
   }
@@ -231,9 +215,8 @@ module _ {C O : Type 0} {client : link.Ghosts C} {origin : link.Ghosts O} {both 
       causes = stands_on (before keeps) (after keeps) (P.SendRequest q) s.phase
           (sent_kept (before keeps) (after keeps) origin.tells p writes) (λ has ends. cause has);
       leaves = λ told also. record {
-        origin = tt;
-        client = sent_spares (before keeps) (after keeps)
-            origin.tells p writes;
+        origin = moves_outbox (before keeps) (after keeps) origin.tells p also writes;
+        client = sent_spares (before keeps) (after keeps) origin.tells p writes;
       };
       keeps = keeps;
     }
@@ -326,7 +309,7 @@ module _ {C O : Type 0} {client : link.Ghosts C} {origin : link.Ghosts O} {both 
     minds = queued_request (before keeps) (after keeps) s text queues;
     waits = waits;
     leaves = λ told also. record {
-      origin = tt;
+      origin = queues_behind (before keeps) (after keeps) text queues;
       client = asked_spares (before keeps) (after keeps) text queues;
     };
     keeps = keeps;
@@ -372,7 +355,12 @@ uploads {C} {O} {client} {origin} {both} {t} {u} {s} keeps q answer moves lowers
           origin.tells (refuses_if both.refuses t.origin) q s answer leads moves has);
       minds = record { answer = answer; moves = moves; lowers = lowers; leads = leads };
       waits = waits;
-      leaves = λ told also. record { origin = tt; client = tt };
+      leaves = λ told also. record {
+        origin = takes_upload (view_of client origin t) (view_of client origin u) client.tells origin.tells
+            (refuses_if both.refuses t.origin) answer told also moves;
+        client = upload_reads (view_of client origin t) (view_of client origin u) client.tells origin.tells
+            (refuses_if both.refuses t.origin) answer told also moves;
+      };
       keeps = keeps;
     }
 

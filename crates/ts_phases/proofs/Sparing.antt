@@ -1,11 +1,20 @@
--- The calls of a step that read nothing of the client.
-use Rattle.std.proofs.Common.{◌≡◌, List, ℕ, Bool, true, ap}
+-- The calls of a step that read nothing of the client, and those that read its request and its upload.
+use Rattle.std.proofs.Common.{◌≡◌, ◌++◌, ◌∙◌, List, [], ℕ, Bool, true, ap, sym}
+use Rattle.std.proofs.lemmas.List.{append-nil}
+use Rattle.ts_upstream.specs.declared.upstream.Uploaded.{Uploaded}
 use Rattle.ts_vconn.specs.declared.moves.Pushed.{Pushed}
+use Rattle.ts_wire.specs.declared.heads.RequestHead.{RequestHead}
 use Rattle.ts_wire.specs.declared.heads.ResponseHead.{ResponseHead}
+use Rattle.ts_wire.specs.Heads.{LacksRequest}
+use Rattle.ts_block.specs.Heads.{HasRequest}
 use Rattle.ts_phases.specs.View.{LinkSide, View}
-use Rattle.ts_phases.specs.Moving.{SeeksResponse, QueuesOwn, QueuesRequest, WritesClient, WritesOrigin}
-use Rattle.ts_phases.specs.Steps.{LeavesClient}
+use Rattle.ts_phases.specs.Moving.{MovesUpload, QueuesOwn, QueuesRequest, Seeks, SeeksRequest, SeeksResponse}
+use Rattle.ts_phases.specs.Moving.{WritesClient, WritesOrigin}
+use Rattle.ts_phases.specs.Steps.{GivesOn, LeavesClient, LeavesClientIn, UploadReads}
 use Rattle.ts_phases.specs.declared.head_reader.Found.{Found}
+use Rattle.ts_phases.specs.declared.head_reader.Found.TheVariants as F
+use Rattle.ts_phases.specs.declared.phase.Phase.{Phase}
+use Rattle.ts_phases.specs.declared.phase.Phase.TheVariants as P
 
 module _ (v w : View) where
   same_client : w.client ≡ v.client → LeavesClient v w
@@ -39,4 +48,40 @@ module _ (v w : View) where
     given = (writes.client.pushes.told told).given;
     held =
         writes.client.inbox;
+  }
+
+  -- ---- what is read
+
+  -- nothing is
+  pub spares_gives : LeavesClient v w → GivesOn v w
+  spares_gives spares = ([], spares.given ∙ sym (append-nil v.client.look.given))
+
+  -- in any phase
+  pub spares_in : (p : Phase) → LeavesClient v w → LeavesClientIn p v w
+  spares_in P.ReadRequest spares = spares_gives spares
+  spares_in (P.Upload q) spares = record { gives = spares_gives spares; held = spares.held }
+  spares_in _ spares = spares
+
+  -- a head was looked for
+  sought_gives : (t : Bool) (found : Found RequestHead) → t ≡ true
+      → Seeks HasRequest LacksRequest t v.client w.client found → GivesOn v w
+  sought_gives t (F.Head head) told seeks =
+      ([], ap (λ (x : LinkSide). x.look.given) seeks.2 ∙ sym (append-nil v.client.look.given))
+  sought_gives t F.Never told seeks =
+      ([], ap (λ (x : LinkSide). x.look.given) seeks.1 ∙ sym (append-nil v.client.look.given))
+  sought_gives t (F.Read answer) told seeks =
+      (seeks.1.pulls.more, (seeks.1.pulls.pulls.told told).given)
+  sought_gives t F.NoMemory told seeks =
+      ([], ap (λ (x : LinkSide). x.look.given) seeks ∙ sym (append-nil v.client.look.given))
+
+  pub asked_gives : (t : Bool) (found : Found RequestHead) → t ≡ true → SeeksRequest t v w found
+      → GivesOn v w
+  asked_gives t found told hears = sought_gives t found told hears.finds
+
+  -- an upload was moved
+  pub upload_reads : (ct ot : Bool) (refuses : List ℕ → Type 0) (answer : Uploaded) → ct ≡ true → ot ≡ true
+      → MovesUpload ct ot refuses answer v w → UploadReads v w
+  upload_reads ct ot refuses answer told also moves = record {
+    gives = (moves.moves.bytes told also).gave;
+    held = ap (λ (x : View). x.client.inbox) moves.others;
   }

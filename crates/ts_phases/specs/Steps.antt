@@ -1,7 +1,7 @@
 -- What the step of a phase owes beside the fact of the phase that it leads to: the fault of a link decides
 -- where it leads, nothing but the request and its upload is sent to the origin, and it waits for a link alone
 -- (RFC 9110, sections 7.6 and 15.6.3).
-use Rattle.std.specs.Prelude.{◌≡◌, ◌<◌, ◌⊎◌, ⊤, Bool, List, ℕ, Option}
+use Rattle.std.specs.Prelude.{◌≡◌, ◌<◌, ◌++◌, ◌⊎◌, ⊤, Bool, List, ℕ, Option}
 use Rattle.ts_hooks.specs.declared.txn_end.TxnEnd.TheVariants as E
 use Rattle.ts_link.specs.Counts.{Rose}
 use Rattle.ts_link.specs.declared.link.Link as link
@@ -47,12 +47,31 @@ pub record LeavesOrigin (v w : View) : Type 0 where
   pub taken : w.origin.look.taken ≡ v.origin.look.taken
   pub waits : w.origin.outbox ≡ v.origin.outbox
 
--- something is in four phases alone, of which each has its own fact on what
+-- a text waits for the origin behind what did, and the origin takes nothing
+pub record QueuesBehind (v w : View) : Type 0 where
+  pub text : List ℕ
+  pub taken : w.origin.look.taken ≡ v.origin.look.taken
+  pub waits : w.origin.outbox ≡ v.origin.outbox ++ text
+
+-- the origin takes a front of what waited for it, and nothing else
+pub record MovesOutbox (v w : View) : Type 0 where
+  pub front : List ℕ
+  pub taken : w.origin.look.taken ≡ v.origin.look.taken ++ front
+  pub waits : v.origin.outbox ≡ front ++ w.origin.outbox
+
+-- the origin takes what an upload wrote behind all that it took, and what waits for it stays
+pub record TakesUpload (v w : View) : Type 0 where
+  pub upload : List ℕ
+  pub taken : w.origin.look.taken ≡ v.origin.look.taken ++ upload
+  pub waits : w.origin.outbox ≡ v.origin.outbox
+
+-- Something is in four phases alone: the request's head is queued in two, and only moved on in the third; and
+-- in the last the origin takes what an upload wrote. The fact of each says which head that is.
 abbrev pub LeavesOriginIn : Phase → View → View → Type 0
-LeavesOriginIn (P.SendRequestHdr q) v w = ⊤
-LeavesOriginIn (P.RuleRequest q place fields) v w = ⊤
-LeavesOriginIn (P.SendRequest q) v w = ⊤
-LeavesOriginIn (P.Upload q) v w = ⊤
+LeavesOriginIn (P.SendRequestHdr q) v w = QueuesBehind v w
+LeavesOriginIn (P.RuleRequest q place fields) v w = QueuesBehind v w
+LeavesOriginIn (P.SendRequest q) v w = MovesOutbox v w
+LeavesOriginIn (P.Upload q) v w = TakesUpload v w
 LeavesOriginIn _ v w = LeavesOrigin v w
 
 -- the next step is made later only where a link was not ready
@@ -96,10 +115,19 @@ pub record LeavesClient (v w : View) : Type 0 where
   pub given : w.client.look.given ≡ v.client.look.given
   pub held : w.client.inbox ≡ v.client.inbox
 
+-- it gave some more
+abbrev pub GivesOn : View → View → Type 0
+GivesOn v w = (more : List ℕ) × (w.client.look.given ≡ v.client.look.given ++ more)
+
+-- an upload read of it, and what it gave before is kept
+pub record UploadReads (v w : View) : Type 0 where
+  pub gives : GivesOn v w
+  pub held : w.client.inbox ≡ v.client.inbox
+
 -- it is read for the request's head, and by an upload
 abbrev pub LeavesClientIn : Phase → View → View → Type 0
-LeavesClientIn P.ReadRequest v w = ⊤
-LeavesClientIn (P.Upload q) v w = ⊤
+LeavesClientIn P.ReadRequest v w = GivesOn v w
+LeavesClientIn (P.Upload q) v w = UploadReads v w
 LeavesClientIn _ v w = LeavesClient v w
 
 -- what the step of a phase leaves as it is of both sides

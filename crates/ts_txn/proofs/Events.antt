@@ -1,6 +1,6 @@
 -- What one event leads to: a step of its phase, a part of a body, one of the last writes, or nothing.
 use Rattle.std.proofs.Common.{◌≡◌, ◌⊎◌, inl, inr, ℕ, List, [], ◌∷◌, true, false, Option, None, refl, sym, ap}
-use Rattle.std.proofs.Common.{subst, ◌∙◌}
+use Rattle.std.proofs.Common.{arith, subst, ◌∙◌}
 use Rattle.std.specs.Arc.{arc_value}
 use Rattle.ts_config.specs.declared.fields.PluginLine.{PluginLine}
 use Rattle.ts_hooks.specs.declared.txn_end.TxnEnd.{TxnEnd}
@@ -21,14 +21,15 @@ use Rattle.ts_phases.specs.Cover.{Proceeds, StepLeads, StepsTo, is_ended, is_fre
 use Rattle.ts_txn.specs.CourseCover.{is_fresh_on, IsCoveredNow, LedAfter, LedBehind, PassesNoBody}
 use Rattle.ts_txn.specs.CourseCover.{StaysOnOrLacks}
 use Rattle.ts_relay.specs.Duties.{set_leaving}
-use Rattle.ts_txn.specs.Driven.{BeginsIn, ClosesAs, DueTo, HandlesEvent, HandlesOn, MindsCourse, StaysOrAsks}
+use Rattle.ts_txn.specs.Driven.{ClosesAs, DueTo, HandlesEvent, HandlesOn}
 use Rattle.ts_txn.specs.Driven.{TakesEvent, TakesOn, TakesStep, WritesOr, delay_of}
 use Rattle.ts_relay.specs.Entering.{CallsNeither}
-use Rattle.ts_phases.specs.Steps.{LeavesClient, LeavesClientIn, LeavesOrigin, LeavesOriginIn, LeavesSides}
-use Rattle.ts_phases.specs.Steps.{MindsLinksIn, WaitsRightly}
+use Rattle.ts_phases.specs.Steps.{LeavesSides, MindsLinks, MindsLinksIn, WaitsRightly}
 use Rattle.ts_phases.specs.Holding.{IfTold, StepKeeps}
 use Rattle.ts_phases.specs.Owed.{MayAsk, MayEnter, MayFollow}
 use Rattle.ts_phases.specs.View.{LinkSide, View, view_of}
+use Rattle.ts_phases.proofs.Leaving.{leaves_in}
+use Rattle.ts_phases.proofs.Sparing.{spares_in}
 use Rattle.ts_transform.proofs.Joined.{named_unroused}
 use Rattle.ts_txn.specs.declared.course.Course.{Course}
 use Rattle.ts_txn.specs.declared.course.Course.TheVariants as K
@@ -49,26 +50,14 @@ use Rattle.ts_txn.proofs.Coursing.{behind_led}
 use Rattle.ts_txn.proofs.Seating.{due_rests}
 
 module _ (v w : View) where
-  leaves_in : (p : Phase) → LeavesOrigin v w → LeavesOriginIn p v w
-  leaves_in (P.SendRequestHdr q) leaves = tt
-  leaves_in (P.RuleRequest q place fields) leaves = tt
-  leaves_in (P.SendRequest q) leaves = tt
-  leaves_in (P.Upload q) leaves = tt
-  leaves_in _ leaves = leaves
-
-  spares_in : (p : Phase) → LeavesClient v w → LeavesClientIn p v w
-  spares_in P.ReadRequest spares = tt
-  spares_in (P.Upload q) spares = tt
-  spares_in _ spares = spares
-
   -- a body begins
   leaves_begun : (p : Phase) → CallsNeither v w → LeavesSides p v w
   leaves_begun p calls = record {
-    origin = leaves_in p (record {
+    origin = leaves_in v w p (record {
       taken = ap (λ (s : LinkSide). s.look.taken) calls.origin;
       waits = ap (λ (s : LinkSide). s.outbox) calls.origin;
     });
-    client = spares_in p (record { given = ap (λ (l : Look). l.given) calls.client; held = calls.held });
+    client = spares_in v w p (record { given = ap (λ (l : Look). l.given) calls.client; held = calls.held });
   }
 
 -- nothing is done
@@ -87,6 +76,30 @@ enter_closes lines _ q h new enters = tt
 ask_closes : {Q : Type 0} (p next : Phase) (new : Course Q) → MayAsk p next → ClosesAs p new
 ask_closes (P.TxnClose end) next new asks = absurd asks
 ask_closes _ next new asks = tt
+
+-- a body begins behind phases that may end for want of memory
+enter_lacks : (lines : List PluginLine) (p : Phase) (q : Request) (h : ResponseHead) → MayEnter lines p q h
+    → MayFollow lines p (P.Ended E.NoMemory)
+enter_lacks lines (P.ResponseTransform r k) q h enters = refl
+enter_lacks lines (P.RuleResponse r k place fields) q h enters = refl
+enter_lacks lines _ q h enters = absurd enters
+
+-- no count of a link rises where no call is made on it
+minds_none : (v w : View) (made : Step) → CallsNeither v w → MindsLinks v w made
+minds_none v w made calls =
+    let client_faults : w.client.look.faults ≡ v.client.look.faults = ap (λ (l : Look). l.faults) calls.client
+    in
+    let client_waits : w.client.look.waits ≡ v.client.look.waits = ap (λ (l : Look). l.waits) calls.client in
+    let faults : w.origin.look.faults ≡ v.origin.look.faults =
+    ap (λ (x : LinkSide). x.look.faults) calls.origin in
+    let waits : w.origin.look.waits ≡ v.origin.look.waits =
+    ap (λ (x : LinkSide). x.look.waits) calls.origin in
+    record {
+      client_fault = λ rose. absurd (omega (arith, rose, client_faults));
+      origin_fault = λ rose. absurd (omega (arith, rose, faults));
+      client_again = λ rose. absurd (omega (arith, rose, client_waits));
+      origin_again = λ rose. absurd (omega (arith, rose, waits));
+    }
 
 -- a phase in which a plugin is asked is one of a transaction that was started
 ask_started : (p next : Phase) → MayAsk p next → is_fresh next ≡ false
@@ -137,6 +150,17 @@ module _ {C O : Type 0} (client : link.Ghosts C) (origin : link.Ghosts O) (both 
     refusal = record { still = λ c h. h; before = λ c h. h };
   }
 
+  -- where no call is made on either link, none is minded
+  enter_minds : (s t : Core C O) (p : Phase) (q : Request) (h : ResponseHead) (made : Step)
+      → MayEnter (arc_value s.setup).plugins.items p q h
+      → CallsNeither (view_of client origin s) (view_of client origin t)
+      → MindsLinksIn client origin both s t p made
+  enter_minds s t (P.ResponseTransform r k) q h made enters calls =
+      minds_none (view_of client origin s) (view_of client origin t) made calls
+  enter_minds s t (P.RuleResponse r k place fields) q h made enters calls =
+      minds_none (view_of client origin s) (view_of client origin t) made calls
+  enter_minds s t _ q h made enters calls = absurd enters
+
 closes_same : (Q : Type 0) (p : Phase) → ClosesAs {Q = Q} p (K.Phased p)
 closes_same Q (P.TxnClose end) = inl refl
 closes_same Q _ = tt
@@ -151,7 +175,11 @@ module _ {C O Q : Type 0} (client : link.Ghosts C) (origin : link.Ghosts O) (bot
       → LedBehind made.next (K.Phased made.phase) new
       → TakesStep client origin both s t p made.next new
   takes_step s t p new made leads follows minds waits leaves led = record {
-    minds = by_lead (behind_led made.next (K.Phased made.phase) new led);
+    minds = inr (record {
+      led = K.Phased made.phase;
+      minds = (follows, minds);
+      stays = behind_led made.next (K.Phased made.phase) new led;
+    });
     waits = waits;
     leaves = leaves;
     closes = by_phase p minds;
@@ -159,13 +187,6 @@ module _ {C O Q : Type 0} (client : link.Ghosts C) (origin : link.Ghosts O) (bot
         (behind_led made.next (K.Phased made.phase) new led);
   }
     where
-      by_lead : StaysOnOrLacks (K.Phased made.phase) new
-          → (new ≡ K.Phased (P.Ended E.NoMemory)) ⊎ ((t ≡ s) × StaysOrAsks p new) ⊎ MindsCourse client origin
-          both s t p made.next new
-      by_lead (inl same) = inr (inr (subst (MindsCourse client origin both s t p
-          made.next) (sym same) (follows, minds)))
-      by_lead (inr lacks) = inl lacks
-
       by_phase : (p : Phase) → MindsLinksIn client origin both s t p made → ClosesAs p new
       by_phase (P.TxnClose end) minds = inr (subst (λ (m : Step). LedBehind m.next (K.Phased m.phase) new)
           minds.1 led)
@@ -187,22 +208,17 @@ module _ {C O Q : Type 0} (client : link.Ghosts C) (origin : link.Ghosts O) (bot
       → (new ≡ K.Relaying r) ⊎ (new ≡ K.Phased (P.Ended E.NoMemory))
       → TakesStep client origin both s t p N.Go new
   takes_begin s t p q h new r enters calls led = record {
-    minds = by_lead led;
+    minds = inr (record {
+      led = K.Relaying r;
+      minds = record { request = q; head = h; enters = enters; calls = calls };
+      stays = led;
+    });
     waits = tt;
     leaves = λ told also. leaves_begun (view_of client origin s) (view_of client origin t) p calls;
     closes = enter_closes (arc_value s.setup).plugins.items p q h new enters;
     started = λ was. by_start led;
   }
     where
-      by_lead : (new ≡ K.Relaying r) ⊎ (new ≡ K.Phased (P.Ended E.NoMemory))
-          → (new ≡ K.Phased (P.Ended E.NoMemory)) ⊎ ((t ≡ s) × StaysOrAsks p new) ⊎ MindsCourse client origin
-          both s t p N.Go new
-      by_lead (inl same) =
-          let begins : BeginsIn (arc_value s.setup).plugins.items p (view_of client origin s)
-          (view_of client origin t) = record { request = q; head = h; enters = enters; calls = calls } in
-          inr (inr (subst (MindsCourse client origin both s t p N.Go) (sym same) begins))
-      by_lead (inr lacks) = inl lacks
-
       by_start : (new ≡ K.Relaying r) ⊎ (new ≡ K.Phased (P.Ended E.NoMemory)) → is_fresh_on new ≡ false
       by_start (inl same) = ap is_fresh_on same
       by_start (inr lacks) = ap is_fresh_on lacks
@@ -213,7 +229,15 @@ module _ {C O Q : Type 0} (client : link.Ghosts C) (origin : link.Ghosts O) (bot
       → CallsNeither (view_of client origin s) (view_of client origin t)
       → TakesStep {Q = Q} client origin both s t p N.Go (K.Phased (P.Ended E.NoMemory))
   takes_lost s t p q h enters calls = record {
-    minds = inl refl;
+    minds = inr (record {
+      led = K.Phased (P.Ended E.NoMemory);
+      minds = (
+        enter_lacks (arc_value s.setup).plugins.items p q h enters,
+        enter_minds client origin both s t p q h
+            (record { phase = P.Ended E.NoMemory; next = N.Go }) enters calls,
+      );
+      stays = inl refl;
+    });
     waits = tt;
     leaves = λ told also. leaves_begun (view_of client origin s) (view_of client origin t) p calls;
     closes = enter_closes (arc_value s.setup).plugins.items p q h (K.Phased (P.Ended E.NoMemory)) enters;
@@ -224,7 +248,7 @@ module _ {C O Q : Type 0} (client : link.Ghosts C) (origin : link.Ghosts O) (bot
   pub takes_ask : (s : Core C O) (p next : Phase) → MayAsk p next
       → TakesStep {Q = Q} client origin both s s p N.Go (K.Phased next)
   takes_ask s p next asks = record {
-    minds = inr (inl (refl, inr asks));
+    minds = inl (refl, inr asks);
     waits = tt;
     leaves = λ told also. leaves_same p (view_of client origin s);
     closes = ask_closes p next (K.Phased next) asks;
@@ -285,7 +309,7 @@ module _ {C O Q : Type 0} (client : link.Ghosts C) (origin : link.Ghosts O) (bot
   idle_on s a role main (K.Phased p) none = record {
     next = N.Go;
     takes = record {
-      minds = inr (inl (refl, inl refl));
+      minds = inl (refl, inl refl);
       waits = tt;
       leaves = λ told also. leaves_same p (view_of client origin s);
       closes = closes_same Q p;

@@ -112,12 +112,18 @@ module _ {C O Q : Type 0} (client : link.Ghosts C) (origin : link.Ghosts O) (bot
       BeginsIn (arc_value s.setup).plugins.items old (view_of client origin s) (view_of client origin t)
   MindsCourse old next (K.Finishing end) = ⊥
 
-  -- In a phase nothing is done, or a plugin is asked, or the links are minded, and it waits for nothing else;
+  -- A step was made, and it is where that led, or has ended for want of memory; also then the links were
+  -- minded.
+  pub record LeadsOrLacks (old : Phase) (next : Next) (new : Course Q) : Type 0 where
+    pub led : Course Q
+    pub minds : MindsCourse old next led
+    pub stays : StaysOnOrLacks led new
+
+  -- In a phase nothing is done, or a plugin is asked, or a step is made, and it waits for nothing else;
   -- nothing but the request and its upload is sent to the origin; and a transaction that was started stays
   -- so.
   pub record TakesStep (old : Phase) (next : Next) (new : Course Q) : Type 0 where
-    pub minds : (new ≡ K.Phased (P.Ended E.NoMemory)) ⊎ ((t ≡ s) × StaysOrAsks old new)
-        ⊎ MindsCourse old next new
+    pub minds : ((t ≡ s) × StaysOrAsks old new) ⊎ LeadsOrLacks old next new
     pub waits : WaitsRightly next (view_of client origin s) (view_of client origin t)
     pub leaves : IfTold client.tells origin.tells
         (LeavesSides old (view_of client origin s) (view_of client origin t))

@@ -93,8 +93,8 @@ GivesClient client A.Closed old new = new.given ≡ old.given
 GivesClient client A.Failed old new = new.given ≡ old.given
 
 module _ {C O : Type 0} (origin : link.Ghosts O) (both : upstream.Ghosts O C) where
-  -- The origin of a client: where it tells, it gave and took nothing; it belongs to any client, and refuses no
-  -- upload.
+  -- The origin of a client: where it tells, it gave and took nothing; it belongs to any client, and refuses
+  -- no upload.
   pub record IsNextOrigin (o : O) : Type 0 where
     pub unused : origin.tells ≡ true → IsNewLink (origin.look o)
     pub paired : (c : C) → both.paired c o

@@ -4,7 +4,7 @@ ghost use Rattle.ts_transform.specs.Driving.{IsDueAfter, SetsOnly};
 ghost use Rattle.ts_txn.specs.CourseCover.{is_fresh_on, CoversAlone, SetsOneOrNone, StaysOnOrLacks};
 
 use crate::course::Course;
-use crate::course_leads::{AT_ONCE, Lead, go_to};
+use crate::course_leads::{AT_ONCE, Lead, lead_to};
 use ts_group::{Cx, SetFault};
 use ts_phases::Phase;
 use ts_relay::MAIN;
@@ -38,5 +38,5 @@ pub fn begin<P: Drop>(main: &mut Option<StageContinuation>, cx: &mut Cx) -> Cour
         return Course::Phased(Phase::LACKS);
     };
     *main = Some(made);
-    go_to(Lead::TxnStart, AT_ONCE, main, cx)
+    lead_to(Lead::TxnStart, AT_ONCE, main, cx)
 }

@@ -69,7 +69,7 @@ fn course_led<P>(lead: Lead) -> Course<P>
 
 /// Leads a transaction on, and sets the event of its next step; where there is no memory for one, it
 /// ends.
-pub fn go_to<P>(
+pub fn lead_to<P>(
     lead: Lead,
     after: u64,
     main: &mut Option<StageContinuation>,
@@ -128,11 +128,11 @@ pub fn leave_body<P: Transform + Drop>(
         BodyStep::Waits => Course::Relaying(relay),
         BodyStep::Finishes(end) => {
             close_relay(relay, cx);
-            go_to(Lead::Finishing(end), AT_ONCE, main, cx)
+            lead_to(Lead::Finishing(end), AT_ONCE, main, cx)
         }
         BodyStep::Closes(end) => {
             close_relay(relay, cx);
-            go_to(Lead::TxnClose(end), AT_ONCE, main, cx)
+            lead_to(Lead::TxnClose(end), AT_ONCE, main, cx)
         }
         BodyStep::Lacks => {
             close_relay(relay, cx);
@@ -202,10 +202,10 @@ pub fn after_write<P: Drop>(
     ensures covered { CoversAlone main.old main.new result cx.old cx.new }
 {
     match step {
-        BodyStep::Goes => go_to(Lead::Finishing(end), AT_ONCE, main, cx),
-        BodyStep::Waits => go_to(Lead::Finishing(end), RETRY_AFTER, main, cx),
-        BodyStep::Finishes(end) => go_to(Lead::Finishing(end), AT_ONCE, main, cx),
-        BodyStep::Closes(end) => go_to(Lead::TxnClose(end), AT_ONCE, main, cx),
+        BodyStep::Goes => lead_to(Lead::Finishing(end), AT_ONCE, main, cx),
+        BodyStep::Waits => lead_to(Lead::Finishing(end), RETRY_AFTER, main, cx),
+        BodyStep::Finishes(end) => lead_to(Lead::Finishing(end), AT_ONCE, main, cx),
+        BodyStep::Closes(end) => lead_to(Lead::TxnClose(end), AT_ONCE, main, cx),
         BodyStep::Lacks => {
             destroy_end(main, cx);
             Course::Phased(Phase::LACKS)

@@ -10,11 +10,11 @@ use Rattle.ts_txn.proofs.continuation.begin.Goals as goal
 pub returns-clause-within : goal.returns-clause-within
 returns-clause-within g c =
     acts_then 0 1 1 (omega arith) (made_acts c.args.cx.now c.make_end.new.cx 0 c.make_end.ensures.grows
-    c.make_end.ensures.turn c.make_end.ensures.events) c.go_to.ensures.within
+    c.make_end.ensures.turn c.make_end.ensures.events) c.lead_to.ensures.within
 
 pub returns-clause-covered : goal.returns-clause-covered
 returns-clause-covered g c = λ alone v.
-    c.go_to.ensures.covered
+    c.lead_to.ensures.covered
     (alone_made c.in-Ok.made c.args.cx.now c.make_end.new.cx
     (subst (λ m. AllSeated c.args.cx.now.log.state.pending (m ∷ [])) c.requires.none alone.seated)
     alone.plain

@@ -8,16 +8,16 @@ use Rattle.ts_txn.proofs.course_leads.after_write.Goals as goal
 
 -- More is written, or the transaction closes.
 pub returns-in-Goes-clause-covered : goal.returns-in-Goes-clause-covered
-returns-in-Goes-clause-covered g c = c.go_to.ensures.covered
+returns-in-Goes-clause-covered g c = c.lead_to.ensures.covered
 
 pub returns-in-Waits-clause-covered : goal.returns-in-Waits-clause-covered
-returns-in-Waits-clause-covered g c = c.go_to-in-Waits.ensures.covered
+returns-in-Waits-clause-covered g c = c.lead_to-in-Waits.ensures.covered
 
 pub returns-in-Finishes-clause-covered : goal.returns-in-Finishes-clause-covered
-returns-in-Finishes-clause-covered g c = c.go_to-in-Finishes.ensures.covered
+returns-in-Finishes-clause-covered g c = c.lead_to-in-Finishes.ensures.covered
 
 pub returns-in-Closes-clause-covered : goal.returns-in-Closes-clause-covered
-returns-in-Closes-clause-covered g c = c.go_to-in-Closes.ensures.covered
+returns-in-Closes-clause-covered g c = c.lead_to-in-Closes.ensures.covered
 
 -- Memory lacked.
 pub returns-in-Lacks-clause-covered : goal.returns-in-Lacks-clause-covered

@@ -25,55 +25,55 @@ returns-in-Waits-clause-within g c = acts_none (set_leaving c.args.step) c.args.
 -- All that the client gets was queued.
 pub returns-in-Finishes-clause-within : goal.returns-in-Finishes-clause-within
 returns-in-Finishes-clause-within g c =
-    subst (λ s. ActsWithin (set_leaving s) c.args.cx.now c.go_to.new.cx) (sym c.in-Finishes.is)
+    subst (λ s. ActsWithin (set_leaving s) c.args.cx.now c.lead_to.new.cx) (sym c.in-Finishes.is)
     (acts_then 0 1 1 (omega arith) (cleared_acts (relay_seats c.args.relay) c.args.cx.now c.close_relay.new.cx
-    c.close_relay.ensures.clears) c.go_to.ensures.within)
+    c.close_relay.ensures.clears) c.lead_to.ensures.within)
 
 pub returns-in-Finishes-clause-due : goal.returns-in-Finishes-clause-due
-returns-in-Finishes-clause-due g c = due_cleared c.args.cx.now c.close_relay.new.cx c.go_to.new.cx AT_ONCE
-    c.close_relay.ensures.clears.lessens c.go_to.ensures.due
+returns-in-Finishes-clause-due g c = due_cleared c.args.cx.now c.close_relay.new.cx c.lead_to.new.cx AT_ONCE
+    c.close_relay.ensures.clears.lessens c.lead_to.ensures.due
 
 pub returns-in-Finishes-clause-covered : goal.returns-in-Finishes-clause-covered
 returns-in-Finishes-clause-covered g c =
-    left_covers c.args.step c.args.relay c.go_to.result c.args.main.now c.go_to.new.main c.args.cx.now
-    c.close_relay.new.cx c.go_to.new.cx
+    left_covers c.args.step c.args.relay c.lead_to.result c.args.main.now c.lead_to.new.main c.args.cx.now
+    c.close_relay.new.cx c.lead_to.new.cx
     (runs_finishing c.args.step c.in-Finishes.end (RunsOr c.args.relay c.args.cx.now.log.state.next)
-    c.in-Finishes.is) c.close_relay.ensures.clears c.go_to.ensures.covered
+    c.in-Finishes.is) c.close_relay.ensures.clears c.lead_to.ensures.covered
 
 pub returns-in-Finishes-clause-spent : goal.returns-in-Finishes-clause-spent
 returns-in-Finishes-clause-spent g c =
-    subst (λ s. StaysWhereNamed (course_after c.args.relay s) c.args.relay c.go_to.result c.args.main.now
+    subst (λ s. StaysWhereNamed (course_after c.args.relay s) c.args.relay c.lead_to.result c.args.main.now
     c.args.cx.now) (sym c.in-Finishes.is)
-    (left_spent (course_after c.args.relay (S.Finishes c.in-Finishes.end)) c.args.relay c.go_to.result
-    c.args.main.now c.args.cx.now c.close_relay.new.cx c.close_relay.ensures.clears c.go_to.ensures.spent)
+    (left_spent (course_after c.args.relay (S.Finishes c.in-Finishes.end)) c.args.relay c.lead_to.result
+    c.args.main.now c.args.cx.now c.close_relay.new.cx c.close_relay.ensures.clears c.lead_to.ensures.spent)
 
 -- The transaction closes.
 pub returns-in-Closes-clause-within : goal.returns-in-Closes-clause-within
 returns-in-Closes-clause-within g c =
-    subst (λ s. ActsWithin (set_leaving s) c.args.cx.now c.go_to-in-Closes.new.cx) (sym c.in-Closes.is)
+    subst (λ s. ActsWithin (set_leaving s) c.args.cx.now c.lead_to-in-Closes.new.cx) (sym c.in-Closes.is)
     (acts_then 0 1 1 (omega arith) (cleared_acts (relay_seats c.args.relay) c.args.cx.now
     c.close_relay-in-Closes.new.cx c.close_relay-in-Closes.ensures.clears)
-    c.go_to-in-Closes.ensures.within)
+    c.lead_to-in-Closes.ensures.within)
 
 pub returns-in-Closes-clause-due : goal.returns-in-Closes-clause-due
 returns-in-Closes-clause-due g c = due_cleared c.args.cx.now c.close_relay-in-Closes.new.cx
-    c.go_to-in-Closes.new.cx AT_ONCE c.close_relay-in-Closes.ensures.clears.lessens
-    c.go_to-in-Closes.ensures.due
+    c.lead_to-in-Closes.new.cx AT_ONCE c.close_relay-in-Closes.ensures.clears.lessens
+    c.lead_to-in-Closes.ensures.due
 
 pub returns-in-Closes-clause-covered : goal.returns-in-Closes-clause-covered
 returns-in-Closes-clause-covered g c =
-    left_covers c.args.step c.args.relay c.go_to-in-Closes.result c.args.main.now c.go_to-in-Closes.new.main
-    c.args.cx.now c.close_relay-in-Closes.new.cx c.go_to-in-Closes.new.cx
+    left_covers c.args.step c.args.relay c.lead_to-in-Closes.result c.args.main.now c.lead_to-in-Closes.new.main
+    c.args.cx.now c.close_relay-in-Closes.new.cx c.lead_to-in-Closes.new.cx
     (runs_closing c.args.step c.in-Closes.end (RunsOr c.args.relay c.args.cx.now.log.state.next)
-    c.in-Closes.is) c.close_relay-in-Closes.ensures.clears c.go_to-in-Closes.ensures.covered
+    c.in-Closes.is) c.close_relay-in-Closes.ensures.clears c.lead_to-in-Closes.ensures.covered
 
 pub returns-in-Closes-clause-spent : goal.returns-in-Closes-clause-spent
 returns-in-Closes-clause-spent g c =
-    subst (λ s. StaysWhereNamed (course_after c.args.relay s) c.args.relay c.go_to-in-Closes.result
+    subst (λ s. StaysWhereNamed (course_after c.args.relay s) c.args.relay c.lead_to-in-Closes.result
     c.args.main.now c.args.cx.now) (sym c.in-Closes.is)
-    (left_spent (course_after c.args.relay (S.Closes c.in-Closes.end)) c.args.relay c.go_to-in-Closes.result
+    (left_spent (course_after c.args.relay (S.Closes c.in-Closes.end)) c.args.relay c.lead_to-in-Closes.result
     c.args.main.now c.args.cx.now c.close_relay-in-Closes.new.cx
-    c.close_relay-in-Closes.ensures.clears c.go_to-in-Closes.ensures.spent)
+    c.close_relay-in-Closes.ensures.clears c.lead_to-in-Closes.ensures.spent)
 
 -- Memory lacked, and all was destroyed.
 pub returns-in-Lacks-clause-within : goal.returns-in-Lacks-clause-within

@@ -6,7 +6,7 @@ use Rattle.ts_txn.specs.CourseCover.{CoversAlone}
 use Rattle.ts_txn.specs.declared.course.Course.TheVariants as K
 use Rattle.ts_phases.specs.declared.phase.Phase.TheVariants as P
 use Rattle.ts_txn.proofs.CourseSeats.{goes_led, lacks_alone, led_alone}
-use Rattle.ts_txn.proofs.course_leads.go_to.Goals as goal
+use Rattle.ts_txn.proofs.course_leads.lead_to.Goals as goal
 
 pub returns-then-rouse_next-clause-covered : goal.returns-then-rouse_next-clause-covered
 returns-then-rouse_next-clause-covered g c =
