@@ -1,2 +1,3 @@
 mod Counts
 mod Steps
+pub mod Whole

@@ -184,11 +184,13 @@ nothing_left : (G : PassView → ℕ) (views : List PassView) → G spent ≡ 0 
 nothing_left G views none ok shares = sum_by-zero_by IsLawfulView (λ (u : PassView). u.share) G
     (λ u fine zero_share. ap G (fine.blank zero_share) ∙ none) views ok shares
 
--- where the queue is empty, a pass with the whole share took exactly what was put
-whole_taken : (views : List PassView) (id : ℕ) (v : PassView) → IsLawfulQueue [] views
-    → get_elem? views id ≡ some v
-    → v.share ≡ WHOLE_SHARE → Exactly v.put v.taken
-whole_taken views id v h at whole t =
+-- a pass with the whole share put each ticket once or never, and what it did not take stands in the queue
+pub whole_balance : (items : List Ticket) (views : List PassView) (id : ℕ) (v : PassView)
+    → IsLawfulQueue items views → get_elem? views id ≡ some v → v.share ≡ WHOLE_SHARE → (t : Ticket)
+    → (count_by (is_same_ticket t) v.put
+    ≡ count_by (is_same_ticket t) v.taken + count_by (is_same_ticket t) items)
+    × (count_by (is_same_ticket t) v.put ≤ 1)
+whole_balance items views id v h at whole t =
     let f : Ticket → ℕ = λ u. one_if (is_same_ticket t u) in
     let g : Ticket → ℕ = λ u. one_if (is_numbered t.putter t.serial u) in
     let others : List PassView = set views id spent in
@@ -208,6 +210,13 @@ whole_taken views id v h at whole t =
     (λ (u : PassView). sum_by g u.put) views id v at in
     let less : sum_by f v.put ≤ sum_by g v.put = sum_by-le_by f g (same-le-numbered t) v.put in
     (omega arith, omega arith)
+
+-- where the queue is empty, a pass with the whole share took exactly what was put
+whole_taken : (views : List PassView) (id : ℕ) (v : PassView) → IsLawfulQueue [] views
+    → get_elem? views id ≡ some v
+    → v.share ≡ WHOLE_SHARE → Exactly v.put v.taken
+whole_taken views id v h at whole t =
+    let even = whole_balance [] views id v h at whole t in (omega arith, even.1)
 
 pub look : (id : ℕ) (v : PassView) → Learns IsLawfulQueue id v (Looks v)
 look id v items views h at none =

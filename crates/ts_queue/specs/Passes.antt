@@ -37,6 +37,11 @@ pub record FindsEmpty (known : PassView) : Type 0 where
   pub empty : Moment known []
   pub whole : known.share ≡ WHOLE_SHARE → Exactly known.put known.taken
 
+-- At each moment that agrees with what the pass knows, the queue holds exactly what the pass put, each ticket
+-- once.
+abbrev pub HoldsAllPut : PassView → Type 0
+HoldsAllPut known = (items : List Ticket) → Moment known items → Exactly known.put items
+
 -- what a look at the queue tells: of its view, and of the tickets in the queue
 abbrev pub Looks : PassView → List Ticket → Type 0
 Looks known items = items ≡ [] → FindsEmpty known

@@ -22,8 +22,8 @@ IsInOrder t u = u.putter ≡ t.putter → t.serial < u.serial
 abbrev pub IsOnce : List Ticket → Type 0
 IsOnce tickets = (putter serial : ℕ) → count_by (is_numbered putter serial) tickets ≤ 1
 
--- each ticket was taken as often as it was put, which is once or never
+-- each ticket was taken, or stands in a queue, as often as it was put, which is once or never
 abbrev pub Exactly : List Ticket → List Ticket → Type 0
-Exactly put taken =
-    (t : Ticket) → (count_by (is_same_ticket t) taken ≡ count_by (is_same_ticket t) put) ×
+Exactly put found =
+    (t : Ticket) → (count_by (is_same_ticket t) found ≡ count_by (is_same_ticket t) put) ×
     (count_by (is_same_ticket t) put ≤ 1)

@@ -6,6 +6,7 @@ mod Groups
 pub mod Joins
 pub mod Known
 mod Moves
+mod Openings
 pub mod Rows
 pub mod Seats
 mod Standing

@@ -1,6 +1,5 @@
--- What stands behind the answer that memory lacked in no thread: a run of each of them to its end.
-use Rattle.std.specs.Prelude.{◌≡◌, ℕ, zero, suc, ◌+◌, List, [], Bool, Option}
-use Rattle.std.specs.Bool.{OnTrue}
+-- What stands behind the answer of threads: that memory lacked in none of them, or in one.
+use Rattle.std.specs.Prelude.{◌≡◌, ℕ, zero, suc, ◌+◌, ◌⊎◌, ◌&&◌, List, [], Bool, true, false, Option}
 use mathlib.Core.Option.{some}
 use lib.ListN.{get_elem?}
 use Rattle.ts_journal.specs.declared.slotted.Slotted.{Ghosts}
@@ -18,7 +17,7 @@ use Rattle.ts_slot.specs.Views.{left_half, right_half, joined, IsAfter}
 use Rattle.ts_slot.specs.Words.{view}
 use Rattle.ts_thread.specs.declared.desk.Desk.{Desk}
 use Rattle.ts_thread.specs.declared.did.RunEnd.{RunEnd}
-use Rattle.ts_thread.specs.Runs.{HasRunTo}
+use Rattle.ts_thread.specs.Runs.{HasRunTo, HasLacked}
 use Rattle.ts_thread.specs.Started.{AllStarted, HasPut}
 
 module _ {X G T : Type 0} {d : Ghosts X G T} where
@@ -59,10 +58,41 @@ module _ {W Q R T U : Type 0} {d : Ghosts (Group W Q R T U) T (Group W Q R T U)}
       × IsSplit seat one rest pass p q × RanToEnd one p one' p' × AllRanToEnd (suc n) rest q rest' q'
       × IsRejoined back one' rest' back_pass p' q'
 
-  -- where the answer says that memory lacked in none of so many threads, each ran to its end
+  -- One thread took turns, from this seat and this pass with an empty wheel to those, until memory lacked in one
+  -- of them.
+  pub record StoppedShort (seat : Seat (Group W Q R T U) T (Group W Q R T U) d) (pass : QueuePass)
+      (back : Seat (Group W Q R T U) T (Group W Q R T U) d) (back_pass : QueuePass) : Type 0 where
+    pub old : Desk (Group W Q R T U) T (Group W Q R T U) d
+    pub new : Desk (Group W Q R T U) T (Group W Q R T U) d
+    pub begins : (old.seat ≡ seat) × (old.pass ≡ pass) × (old.wheel ≡ [])
+    pub ends : (new.seat ≡ back) × (new.pass ≡ back_pass)
+    pub lacked : HasLacked Fits Asking Answers Called Heard Left tags budget old new
+
+  -- What the answer of one thread says: true that it ran to its end; false that memory lacked in one of its
+  -- turns, or before the first of them.
+  abbrev pub TellsRun : Bool → Seat (Group W Q R T U) T (Group W Q R T U) d → QueuePass
+      → Seat (Group W Q R T U) T (Group W Q R T U) d → QueuePass → Type 0
+  TellsRun true seat pass back back_pass = RanToEnd seat pass back back_pass
+  TellsRun false seat pass back back_pass =
+      ((back ≡ seat) × (back_pass ≡ pass)) ⊎ StoppedShort seat pass back back_pass
+
+  -- What the answer of so many threads says: it is true where that of each of them is, and false where that of
+  -- one is, or where memory lacked for a part of the seat and the pass, which stay as they were.
+  abbrev pub TellRuns : ℕ → Bool → Seat (Group W Q R T U) T (Group W Q R T U) d → QueuePass
+      → Seat (Group W Q R T U) T (Group W Q R T U) d → QueuePass → Type 0
+  TellRuns zero ended seat pass back back_pass = ⊥
+  TellRuns (suc zero) ended seat pass back back_pass = TellsRun ended seat pass back back_pass
+  TellRuns (suc (suc n)) ended seat pass back back_pass =
+      ((ended ≡ false) × (back ≡ seat) × (pass_view back_pass ≡ pass_view pass))
+      ⊎ ((one one' rest rest' : Seat (Group W Q R T U) T (Group W Q R T U) d) × (p p' q q' : QueuePass)
+      × (own others : Bool) × IsSplit seat one rest pass p q × TellsRun own one p one' p'
+      × TellRuns (suc n) others rest q rest' q' × IsRejoined back one' rest' back_pass p' q'
+      × (ended ≡ (others && own)))
+
+  -- the same of a triple that comes back: a seat, a pass and the answer
   abbrev pub TellsRuns : ℕ → Seat (Group W Q R T U) T (Group W Q R T U) d → QueuePass
       → Seat (Group W Q R T U) T (Group W Q R T U) d × QueuePass × Bool → Type 0
-  TellsRuns threads seat pass back = OnTrue back.2 (AllRanToEnd threads seat pass back.0 back.1)
+  TellsRuns threads seat pass back = TellRuns threads back.2 seat pass back.0 back.1
 
 -- Groups that threads ran, each of them to its end: from a seat that had started the first so many, and a
 -- pass that had put the tokens of their first events, to a seat after whose knowledge each group stands.

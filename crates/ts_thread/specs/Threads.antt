@@ -1,10 +1,11 @@
 -- A seat and a pass of a thread, and how they are split among threads.
 use Rattle.std.specs.Prelude.{◌≡◌, ℕ, ◌+◌, ◌*◌, ◌<◌, ◌≤◌, List, [], Bool, length}
 use Rattle.ts_journal.specs.declared.slotted.Slotted.{Ghosts}
+use Rattle.ts_queue.specs.declared.TheConstants.{WHOLE_SHARE}
 use Rattle.ts_queue.specs.declared.queue.EventQueue.{EventQueue}
 use Rattle.ts_queue.specs.declared.queue.QueuePass.{QueuePass}
 use Rattle.ts_group.specs.declared.group.Group.{Group}
-use Rattle.ts_queue.specs.Passes.{IsPassOf, pass_view}
+use Rattle.ts_queue.specs.Passes.{IsPassOf, HoldsAllPut, pass_view}
 use Rattle.ts_queue.specs.Views.{first_view}
 use Rattle.ts_slot.specs.declared.seat.Seat.{Seat}
 use Rattle.ts_slot.specs.declared.slots.Slots.{Slots}
@@ -58,12 +59,16 @@ module _ {X G T : Type 0} {d : Ghosts X G T} where
     pub turns : (view seat).turns ≡ []
     pub knows : pass_view pass ≡ first_view
 
-  -- The seat has the whole share again and holds no group, counts few turns, and can be split with the pass.
+  -- The seat has the whole share again, holds no group, counts few turns, and can be split with the pass. The
+  -- pass has the whole share again and took nothing, so the queue holds what it put.
   pub record HasOpened (turns : ℕ) (seat : Seat X G T d) (pass : QueuePass) : Type 0 where
     pub share : (view seat).share ≡ whole_share
     pub held : (view seat).held ≡ []
     pub few : length (view seat).turns ≤ turns
     pub splits : CanSplit MOST_THREADS seat pass
+    pub pass_share : (pass_view pass).share ≡ WHOLE_SHARE
+    pub none_taken : (pass_view pass).taken ≡ []
+    pub queued : HoldsAllPut (pass_view pass)
 
   -- a seat and a pass that hold nothing, for so many threads, one at least, with the numbers from this one on
   pub record CanRun (slots : Slots X G T) (queue : EventQueue) (number threads : ℕ) (seat : Seat X G T d)

@@ -67,6 +67,7 @@ impl<V: Slotted> Desk<V> {
         ensures other { IfOk result (λ other. IsDeskOf slots.now queue.now other) }
         ensures ok { IfOk result (λ other. SplitsDesk self.old self.new other) }
         ensures err { OnErr result (KeepsDesk self.old self.new 0) }
+        ensures same { OnErr result (SamePlaces self.old self.new) }
     {
         let wheel = Wheel::new(alloc)?;
         let pass = queue.split(&mut self.pass)?;

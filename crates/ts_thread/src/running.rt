@@ -23,8 +23,9 @@ use ts_slot::{Seat, Slots, Slotted};
 use ts_wheel::Wheel;
 
 /// Starts the first so many groups, each in a turn of its own, by a seat and a pass of their own, which are
-/// joined to these then. The tokens of their first events stand in the queue. Want of memory is answered
-/// where a pass has no serial left too.
+/// joined to these then. The tokens of their first events stand in the queue. Whatever is answered, the seat
+/// and the pass are whole then, and the pass took nothing. Want of memory is answered where a pass has no
+/// serial left too.
 pub fn start_groups<W: World + Drop, R: Wait>(
     rt: &R,
     alloc: Global,

@@ -18,7 +18,8 @@ use ts_link::Gate;
 use ts_queue::{EventQueue, QueuePass};
 use ts_slot::{Seat, Slots};
 
-// The run of one thread. The last part of the answer is true only where memory did not lack.
+// The run of one thread. The last part of the answer is true exactly where it came to its end: memory did not
+// lack.
 fn run_thread<W: World + Drop, G: Gate, R: Wait>(
     rt: &R,
     alloc: Global,
@@ -46,7 +47,8 @@ fn run_thread<W: World + Drop, G: Gate, R: Wait>(
 }
 
 /// Runs so many threads, from this number on, and joins their seats and passes into one. The last part of the
-/// answer is true only where memory lacked in none of them.
+/// answer is true exactly where each of them came to its end: memory lacked in none of them, and not for the
+/// parts of the seat and the pass.
 pub fn run_threads<W: World + Drop + Send, G: Gate + Sync, R: Threads + Wait + Sync>(
     rt: &R,
     alloc: Global,

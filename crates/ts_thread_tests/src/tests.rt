@@ -5,7 +5,7 @@ ghost use Rattle.std.specs.Prelude.{◌≤◌};
 use crate::crowd::{CrowdTally, crowd_of, run_crowd};
 use crate::row::{Tally, drive_row, first_seat, make_row, run_row, tally_of};
 use crate::toys::{ToyTally, run_tally};
-use crate::turns::{play, play_held, play_runs, play_shared};
+use crate::turns::{first_tokens, play, play_held, play_runs, play_shared};
 use std::alloc::Global;
 use std::test::Fail;
 use ts_group_tests::burst::Burst;
@@ -199,6 +199,21 @@ fn no_group_of_a_crowd_is_missed(rt: HostRuntime) -> Result<(), Fail> {
 
 fn token(group: u32, number: u64) -> Token {
     Token { group, number }
+}
+
+// The token of the one event that each start sets stands in the queue, and no other.
+#[test]
+fn the_first_token_of_each_group_stands_in_the_queue(rt: HostRuntime) -> Result<(), Fail> {
+    assert_eq!(rt; first_tokens(&rt, rt.alloc(), 0)?.as_slice(), [].as_slice());
+    assert_eq!(rt;
+        first_tokens(&rt, rt.alloc(), 1)?.as_slice(),
+        [(0u32, 1u64)].as_slice()
+    );
+    assert_eq!(rt;
+        first_tokens(&rt, rt.alloc(), 3)?.as_slice(),
+        [(0u32, 1u64), (1, 1), (2, 1)].as_slice()
+    );
+    Ok(())
 }
 
 const RAN: Did = Did::Ran { events: 1 };

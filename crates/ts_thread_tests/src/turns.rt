@@ -12,7 +12,7 @@ use crate::row::{make_row, make_tags};
 use std::alloc::Global;
 use std::sync::Wait;
 use ts_group::Group;
-use ts_group_tests::peer::Peer;
+use ts_group_tests::peer::{ASKED, Peer};
 use ts_link::{NoMemory, OpenGate};
 use ts_queue::{EventQueue, QueuePass, Token};
 use ts_slot::{Seat, Slots};
@@ -65,6 +65,44 @@ fn open_row<R: Wait>(rt: &R, alloc: Global, todo: u32, starts: u32) -> Result<Op
         queue,
         pass,
     })
+}
+
+// Takes at most so many tokens, and gives of each the numbers of its group and of its event.
+fn take_all<R: Wait>(
+    rt: &R,
+    alloc: Global,
+    queue: &EventQueue,
+    pass: &mut QueuePass,
+    most: u32,
+) -> Result<Vec<(u32, u64)>, NoMemory>
+    requires { IsPassOf queue.now pass.old }
+{
+    let mut tokens = Vec::new(alloc);
+    'takes: for _take in 0..most {
+        let Some(ticket) = queue.take(rt, pass) else {
+            return Ok(tokens);
+        };
+        tokens.push((ticket.token.group, ticket.token.number))?;
+    }
+    Ok(tokens)
+}
+
+/// Of each token in the queue, front to back, the numbers of its group and of its event, once so many groups
+/// are started. Of more than there are groups the last are left out.
+pub fn first_tokens<R: Wait>(
+    rt: &R,
+    alloc: Global,
+    starts: u32,
+) -> Result<Vec<(u32, u64)>, NoMemory>
+    requires { starts ≤ ASKED }
+{
+    let Opened {
+        slots: _,
+        seat: _,
+        queue,
+        mut pass,
+    } = open_row(rt, alloc, 0, starts)?;
+    take_all(rt, alloc, &queue, &mut pass, ASKED + 1)
 }
 
 // Takes one turn.

@@ -7,13 +7,13 @@ use Rattle.ts_lists.proofs.Elements.{all_from_places}
 use Rattle.ts_group.specs.declared.group.Group.{Group}
 use Rattle.ts_group.specs.Standing.{FollowsGroup, StandsAfter}
 use Rattle.ts_slot.specs.Lists.{IsIn, entries}
-use Rattle.ts_slot.specs.Words.{view}
+use Rattle.ts_slot.specs.Words.{tags_of, view}
 use Rattle.ts_thread.specs.Ran.{AllRanToEnd}
 use Rattle.ts_thread.specs.Started.{CanStart, IsFirst, AllStarted, HasPut}
 use Rattle.ts_thread.specs.Tags.{GroupFits}
 use Rattle.ts_thread.specs.Threads.{HasHadTurns, turns_of}
 use Rattle.ts_thread.proofs.Ended.{fit_count}
-use Rattle.ts_thread.proofs.Ran.{where_true}
+use Rattle.ts_thread.proofs.Ran.{all_ran}
 use Rattle.ts_thread.proofs.Starts.{few_entries, few_all, still_young, was_started, after_known, given_known}
 use Rattle.ts_thread.proofs.running.run_groups.Goals as goal
 
@@ -94,6 +94,9 @@ returns-clause-ran g c = record {
       g.W.World.left ts c.args.budget c.args.threads
       c.start_groups.new.seat c.start_groups.new.pass c.run_threads-seat.result.0 c.run_threads-seat.result.1)
       c.in-Ok.ensures.tags
-      (where_true c.run_threads-seat.result.2 ended c.run_threads-seat.ensures.ran);
+      (all_ran g.W.Slotted.fits g.W.World.asking g.W.World.answers g.W.World.called g.W.World.heard
+      g.W.World.left (tags_of c.in-Ok.slots) c.args.budget c.args.threads c.run_threads-seat.result.2 ended
+      c.start_groups.new.seat c.run_threads-seat.result.0 c.start_groups.new.pass c.run_threads-seat.result.1
+      c.run_threads-seat.ensures.ran);
   stand = λ k x at. (c.in-Ok-close.ensures.values k x at).later;
 }

@@ -1,4 +1,4 @@
-use Rattle.std.proofs.Common.{◌∙◌, sym}
+use Rattle.std.proofs.Common.{refl, ◌∙◌, sym}
 use Rattle.ts_journal.specs.declared.entry.TheConstants.{GREATEST}
 use Rattle.ts_queue.specs.Passes.{pass_view}
 use Rattle.ts_slot.specs.Words.{tags_of, view}
@@ -6,8 +6,38 @@ use Rattle.ts_thread.specs.News.{HasPlaceAt}
 use Rattle.ts_thread.specs.Started.{HasPut, IsFirst}
 use Rattle.ts_thread.proofs.Groups.{ok_to}
 use Rattle.ts_thread.proofs.Joins.{joined_more, joined_front, joined_put}
+use Rattle.ts_thread.proofs.Openings.{unopened, joined_opened}
 use Rattle.ts_thread.proofs.Starts.{all_more, place_put, none_waits}
 use Rattle.ts_thread.proofs.running.start_groups.Goals as goal
+
+pub returns-in_err-wheel-clause-opened : goal.returns-in_err-wheel-clause-opened
+returns-in_err-wheel-clause-opened g c =
+    unopened c.args.starts c.args.seat.now c.args.pass.now c.args.pass.now c.requires.opening refl
+
+pub returns-in_err-own_pass-clause-opened : goal.returns-in_err-own_pass-clause-opened
+returns-in_err-own_pass-clause-opened g c =
+    unopened c.args.starts c.args.seat.now c.args.pass.now c.split.new.pass c.requires.opening
+    c.in_err-own_pass.ensures.err
+
+pub returns-in_default-clause-opened : goal.returns-in_default-clause-opened
+returns-in_default-clause-opened g c =
+    joined_opened c.args.starts c.args.seat.now c.split-own_seat.new.seat c.split-own_seat.result
+    c.start_all-started.new.desk.seat c.join.new.into c.args.pass.now c.split.new.pass c.in_ok-own_pass.own_pass
+    c.start_all-started.new.desk.pass c.join-2.new.into c.requires.opening
+    c.split-own_seat.ensures.left c.split-own_seat.ensures.right c.start_all-started.ensures.keeps.desk.seat
+    c.join.ensures.both c.in_ok-own_pass.ensures.kept c.in_ok-own_pass.ensures.split.1
+    c.start_all-started.ensures.keeps.desk.share c.start_all-started.ensures.keeps.places.taken
+    c.join-2.ensures.both
+
+pub returns-clause-opened : goal.returns-clause-opened
+returns-clause-opened g c =
+    joined_opened c.args.starts c.args.seat.now c.split-own_seat.new.seat c.split-own_seat.result
+    c.start_all-started.new.desk.seat c.join.new.into c.args.pass.now c.split.new.pass c.in_ok-own_pass.own_pass
+    c.start_all-started.new.desk.pass c.join-2.new.into c.requires.opening
+    c.split-own_seat.ensures.left c.split-own_seat.ensures.right c.start_all-started.ensures.keeps.desk.seat
+    c.join.ensures.both c.in_ok-own_pass.ensures.kept c.in_ok-own_pass.ensures.split.1
+    c.start_all-started.ensures.keeps.desk.share c.start_all-started.ensures.keeps.places.taken
+    c.join-2.ensures.both
 
 pub returns-clause-knows : goal.returns-clause-knows
 returns-clause-knows g c =

@@ -3,7 +3,7 @@ use Rattle.ts_queue.specs.declared.view.PassView.{PassView as Known}
 use Rattle.ts_queue.specs.Passes.{pass_view}
 use Rattle.ts_slot.specs.Words.{tags_of, view}
 use Rattle.ts_thread.specs.Seats.{KeepsSeat}
-use Rattle.ts_thread.proofs.Ran.{both_true, one_more_ran}
+use Rattle.ts_thread.proofs.Ran.{one_more, none_split}
 use Rattle.ts_thread.proofs.Joins.{joined_keeps, joined_share, one_and_rest, le_of}
 use Rattle.ts_thread.proofs.threads.+fn-run_threads-join+arg3+run_threads.Goals as goal
 
@@ -35,13 +35,21 @@ returns-clause-back g t c =
           c.join-2.ensures.both;
     }
 
+pub returns-in_default-clause-ran : goal.returns-in_default-clause-ran
+returns-in_default-clause-ran g t c =
+    let some = c.requires.ready.some in
+    let many = c.if-threads-eq1.false in
+    none_split g.W.Slotted.fits g.W.World.asking g.W.World.answers g.W.World.called g.W.World.heard
+    g.W.World.left (tags_of c.args.slots.now) c.args.budget c.args.threads (omega arith)
+    c.args.seat c.args.pass c.split.new.pass c.in_default.ensures.err
+
 pub returns-clause-ran : goal.returns-clause-ran
 returns-clause-ran g t c =
     let some = c.requires.ready.some in
-    both_true c.join-one.result.1.2 c.join-one.result.0.2
-    (one_more_ran g.W.Slotted.fits g.W.World.asking g.W.World.answers g.W.World.called g.W.World.heard
+    one_more g.W.Slotted.fits g.W.World.asking g.W.World.answers g.W.World.called g.W.World.heard
     g.W.World.left
     (tags_of c.args.slots.now) c.args.budget c.args.threads (omega arith)
+    c.join-one.result.0.2 c.join-one.result.1.2
     c.args.seat c.join.new.into _ c.join-one.result.0.0 _ c.join-one.result.1.0
     c.args.pass c.join-2.new.into _ c.join-one.result.0.1 _ c.join-one.result.1.1
     (record {
@@ -50,6 +58,6 @@ returns-clause-ran g t c =
       one_part = c.in-Ok.ensures.split.1;
       rest_part = c.in-Ok.ensures.kept;
     })
-    (record { seats = c.join.ensures.both; passes = c.join-2.ensures.both }))
+    (record { seats = c.join.ensures.both; passes = c.join-2.ensures.both })
     c.join-one.ensures.second.1
     c.join-one.ensures.first.1
