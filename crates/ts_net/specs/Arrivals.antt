@@ -2,16 +2,23 @@
 use Rattle.std.specs.Prelude.{⊤, ◌≡◌, ℕ, suc, ◌+◌, ◌<◌, if◌then◌else◌, Result, Ok, Err}
 use Rattle.std.specs.IoError.{raw_os_error}
 use Rattle.std.specs.declared.io.Error.{Error}
+use Rattle.std.specs.declared.net.socket_addr.SocketAddr.{SocketAddr}
 use Rattle.ts_link.specs.Counts.{greatest}
 use Rattle.ts_net.specs.Heard.{is_final}
 use Rattle.ts_net.specs.Links.{fresh_link}
 use Rattle.ts_net.specs.declared.listener.Arrival.{Arrival}
 use Rattle.ts_net.specs.declared.listener.Arrival.TheVariants as V
 use Rattle.ts_net.specs.declared.listener.Listener.{Listener}
+use Rattle.ts_net.specs.declared.listener.SystemAcceptor.{SystemAcceptor}
 
 -- a listener that has accepted nobody
 abbrev pub fresh_listener : {A : Type 0} → A → Listener A
 fresh_listener acceptor = record { acceptor = acceptor; given = 0 }
+
+-- a listener at this address of the system that has accepted nobody
+pub record ListensAt (address : SocketAddr) (l : Listener SystemAcceptor) : Type 0 where
+  pub fresh : l ≡ fresh_listener l.acceptor
+  pub at : l.acceptor.address ≡ address
 
 -- What the system's answer to an accept comes to, where the next client has this number: an error is a fault
 -- where no later accept can succeed, and else another client may come.

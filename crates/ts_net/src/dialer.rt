@@ -1,5 +1,5 @@
 //! Who dials: a connection to the origin is begun, and nobody waits for it.
-ghost use Rattle.std.specs.Prelude.{◌≡◌, Result, ⊤};
+ghost use Rattle.std.specs.Prelude.{◌≡◌, Result};
 ghost use Rattle.std.specs.declared.io.Error.{Error};
 ghost use Rattle.ts_net.specs.Dials.{HearsDial};
 
@@ -41,7 +41,7 @@ impl<'a, R: Net> SystemConnector<'a, R> {
 impl<'a, R: Net> Connector for SystemConnector<'a, R> {
     type Stream = TcpStream;
 
-    ghost connects = { λ before after answer. ⊤ };
+    ghost connects = { λ before after answer. after ≡ before };
 
     fn connect(&mut self) -> io::Result<TcpStream> {
         let stream = TcpStream::connect(self.rt, self.address)?;

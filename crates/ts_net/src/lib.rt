@@ -18,6 +18,6 @@ pub use dialer::{Connector, Dialing, ORIGIN_NAME, SystemConnector, dial};
 pub use half_closed::{HalfClosed, LINGER};
 pub use heard::{got_of, is_final, put_of};
 pub use lingering::{LAST_LINGER, Lingering, MOST_LINGERING, PASSED_AT_ONCE};
-pub use listener::{Acceptor, Arrival, Listener};
+pub use listener::{Acceptor, Arrival, Listener, SystemAcceptor, SystemListener};
 pub use stream::Stream;
 pub use stream_link::{SocketLink, StreamLink};

@@ -1,7 +1,7 @@
 //! Who listens: clients are accepted one after the other, each with the number of clients so far as its name.
-ghost use Rattle.std.specs.Prelude.{◌≡◌, Result, IfOk, ⊤};
+ghost use Rattle.std.specs.Prelude.{◌≡◌, Result, IfOk};
 ghost use Rattle.std.specs.declared.io.Error.{Error};
-ghost use Rattle.ts_net.specs.Arrivals.{IsArrival, IsNamed, after_arrival, fresh_listener};
+ghost use Rattle.ts_net.specs.Arrivals.{IsArrival, IsNamed, ListensAt, after_arrival, fresh_listener};
 
 use crate::heard::is_final;
 use crate::stream::Stream;
@@ -22,14 +22,34 @@ pub trait Acceptor {
         ensures { accepts self.old self.new result };
 }
 
+/// What clients of the system connect to at one address.
+#[derive(Drop)]
+pub struct SystemAcceptor {
+    listener: TcpListener,
+    address: SocketAddr,
+}
+
+impl SystemAcceptor {
+    /// Listens at this address, with the longest backlog that the system allows. The port 0 stands for any
+    /// free one.
+    pub fn bind<R: Net>(rt: &R, address: SocketAddr) -> io::Result<SystemAcceptor>
+        ensures { IfOk result (λ acceptor. acceptor.address ≡ address) }
+    {
+        Ok(SystemAcceptor {
+            listener: TcpListener::bind(rt, address)?,
+            address,
+        })
+    }
+}
+
 // A connection sends what is written at once. Where that cannot be set, its peer has gone.
-impl Acceptor for TcpListener {
+impl Acceptor for SystemAcceptor {
     type Stream = TcpStream;
 
-    ghost accepts = { λ before after answer. ⊤ };
+    ghost accepts = { λ before after answer. after ≡ before };
 
     fn next_stream(&mut self) -> io::Result<TcpStream> {
-        let (stream, _) = self.accept()?;
+        let (stream, _) = self.listener.accept()?;
         let _ = stream.set_nodelay(true);
         Ok(stream)
     }
@@ -68,18 +88,20 @@ impl<A> Listener<A> {
     }
 }
 
-impl Listener<TcpListener> {
-    /// Listens at this address, with the longest backlog that the system allows. The port 0 stands for any
-    /// free one.
-    pub fn bind<R: Net>(rt: &R, address: SocketAddr) -> io::Result<Listener<TcpListener>>
-        ensures { IfOk result (λ listener. listener ≡ fresh_listener listener.acceptor) }
+/// Accepts clients of the system.
+pub type SystemListener = Listener<SystemAcceptor>;
+
+impl Listener<SystemAcceptor> {
+    /// Listens at this address, as `SystemAcceptor` does. It fails only where the system refuses to.
+    pub fn bind<R: Net>(rt: &R, address: SocketAddr) -> io::Result<SystemListener>
+        ensures { IfOk result (ListensAt address) }
     {
-        Ok(Listener::new(TcpListener::bind(rt, address)?))
+        Ok(Listener::new(SystemAcceptor::bind(rt, address)?))
     }
 
-    /// The address that it listens at, with its port.
+    /// The address that it listens at, with the port that the system chose if any was asked for.
     pub fn address(&self) -> io::Result<SocketAddr> {
-        self.acceptor.local_addr()
+        self.acceptor.listener.local_addr()
     }
 }
 

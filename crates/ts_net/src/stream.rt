@@ -1,5 +1,5 @@
 //! Connections of which no call waits.
-ghost use Rattle.std.specs.Prelude.{ℕ, List, Result, ⊤};
+ghost use Rattle.std.specs.Prelude.{◌≡◌, ℕ, List, Result};
 ghost use Rattle.std.specs.Io.{ReadsAtMost, WritesAtMost};
 ghost use Rattle.std.specs.declared.io.Error.{Error};
 
@@ -35,13 +35,13 @@ pub trait Stream {
         ensures { shuts self.old self.new };
 }
 
-// Of a socket of the system nothing is told.
+// Each call leaves a socket the one that it was: what it does with it the system alone knows.
 impl Stream for TcpStream {
-    ghost reads = { λ before after answer room. ⊤ };
+    ghost reads = { λ before after answer room. after ≡ before };
 
-    ghost writes = { λ before after piece answer. ⊤ };
+    ghost writes = { λ before after piece answer. after ≡ before };
 
-    ghost shuts = { λ before after. ⊤ };
+    ghost shuts = { λ before after. after ≡ before };
 
     fn receive(&mut self, into: &mut [u8]) -> io::Result<usize> {
         self.read(into)

@@ -1,22 +1,21 @@
 //! Connections of this machine with itself, for the tests.
 ghost use Rattle.std.specs.Prelude.{◌<◌, length};
 
-use mio::net::TcpListener;
 use std::net::{Ipv4Addr, Net, SocketAddr};
 use std::{io, time};
 use ts_link::{Clock, Got, Link, Put};
-use ts_net::{Arrival, Dialing, Listener, MonotonicClock, SocketLink, SystemConnector};
+use ts_net::{Arrival, Dialing, MonotonicClock, SocketLink, SystemConnector, SystemListener};
 
 /// How many milliseconds a test waits for what is to come.
 pub const PATIENCE: u64 = 5_000;
 
 /// Who listens at a free port.
-pub fn listen<R: Net>(rt: &R) -> io::Result<Listener<TcpListener>> {
-    Listener::bind(rt, SocketAddr::from((Ipv4Addr::LOCALHOST, 0)))
+pub fn listen<R: Net>(rt: &R) -> io::Result<SystemListener> {
+    SystemListener::bind(rt, SocketAddr::from((Ipv4Addr::LOCALHOST, 0)))
 }
 
 /// A connection to who listens.
-pub fn dial<R: Net>(rt: &R, listener: &Listener<TcpListener>) -> io::Result<SocketLink> {
+pub fn dial<R: Net>(rt: &R, listener: &SystemListener) -> io::Result<SocketLink> {
     let mut connector = SystemConnector::new(rt, listener.address()?);
     match ts_net::dial(&mut connector) {
         Dialing::Origin(link) => Ok(link),
@@ -25,10 +24,7 @@ pub fn dial<R: Net>(rt: &R, listener: &Listener<TcpListener>) -> io::Result<Sock
 }
 
 /// The next client, which is waited for.
-pub fn accept<R: time::Clock>(
-    rt: &R,
-    listener: &mut Listener<TcpListener>,
-) -> io::Result<SocketLink> {
+pub fn accept<R: time::Clock>(rt: &R, listener: &mut SystemListener) -> io::Result<SocketLink> {
     let clock = MonotonicClock::new(rt);
     for _ in 0..PATIENCE {
         match listener.accept() {

@@ -1,7 +1,6 @@
 -- What contracts see of a net over sockets, and what each of its calls does.
 use Rattle.std.specs.Prelude.{◌≡◌, ℕ, ◌<◌, List, [], ⊤, false, Option, Some, None, Result, Ok, Err}
 use Rattle.std.specs.declared.io.Error.{Error}
-use Rattle.mio.specs.declared.net.listener.TcpListener.{TcpListener}
 use Rattle.mio.specs.declared.net.stream.TcpStream.{TcpStream}
 use Rattle.ts_link.specs.Counts.{greatest}
 use Rattle.ts_link.specs.declared.link.Link as link
@@ -14,8 +13,9 @@ use Rattle.ts_net.specs.declared.dialer.Dialing.TheVariants as G
 use Rattle.ts_net.specs.declared.dialer.SystemConnector.{SystemConnector}
 use Rattle.ts_net.specs.declared.listener.Arrival.{Arrival}
 use Rattle.ts_net.specs.declared.listener.Arrival.TheVariants as V
+use Rattle.ts_net.specs.declared.listener.SystemAcceptor.{SystemAcceptor}
 use Rattle.ts_net.specs.declared.stream_link.StreamLink.{StreamLink}
-use Rattle.ts_socket_net.specs.Opening.{IsOpened}
+use Rattle.ts_socket_net.specs.Opening.{CannotBegin, IsOpened}
 use Rattle.ts_socket_net.specs.declared.opening.Opened.{Opened}
 use Rattle.ts_socket_net.specs.declared.socket_net.SocketNet.{SocketNet}
 use Rattle.ts_txn.specs.Net.{IsNextClient, NetSeen}
@@ -52,19 +52,29 @@ seen_of n = record { given = given_of n.opened; handed = n.handed; retired = [];
 abbrev pub no_counts : NetCounts
 no_counts = record { faults = 0; misdials = 0; waits = 0; ends = 0 }
 
--- nothing is told of what a read or the end of sending leaves of a socket
-abbrev pub untold_read : TcpStream → TcpStream → Result ℕ Error → List ℕ → Type 0
-untold_read before after answer room = ⊤
+-- what a call of the system leaves of what it is made on: a read, the end of sending, an accept, a connect
+abbrev pub still_read : TcpStream → TcpStream → Result ℕ Error → List ℕ → Type 0
+still_read before after answer room = after ≡ before
 
-abbrev pub untold_end : TcpStream → TcpStream → Type 0
-untold_end before after = ⊤
+abbrev pub still_shut : TcpStream → TcpStream → Type 0
+still_shut before after = after ≡ before
 
--- A net that begins listens and dials where the two texts say, and had not begun before. With any other answer
--- it stays as it was.
+abbrev pub still_accept : SystemAcceptor → SystemAcceptor → Result TcpStream Error → Type 0
+still_accept before after answer = after ≡ before
+
+abbrev pub still_connect : {R : Type 0} → SystemConnector R → SystemConnector R → Result TcpStream Error
+    → Type 0
+still_connect before after answer = after ≡ before
+
+-- A net that begins listens and dials where the two texts say, and had not begun before; nor had one that
+-- lacks memory for it. One fails to begin where it had begun, or where none can. With any other answer than
+-- the first it stays as it was.
 abbrev pub Begins : {R : Type 0} → List ℕ → List ℕ → Began → Option (Opened R) → Option (Opened R) → Type 0
 Begins listen origin B.Ready None (Some o) = IsOpened listen origin o
 Begins listen origin B.Ready _ _ = ⊥
-Begins listen origin _ old new = new ≡ old
+Begins listen origin B.NoMemory old new = (old ≡ None) × (new ≡ None)
+Begins listen origin B.Failed None new = (new ≡ None) × CannotBegin listen origin
+Begins listen origin B.Failed (Some o) new = new ≡ Some o
 
 -- what a net answers where this came to who listens
 abbrev pub accepted_of : Arrival TcpStream → Accepted Socket
@@ -76,11 +86,11 @@ accepted_of V.Failed = A.Failed
 -- Those who linger are looked at once, and then the next client is accepted, if one is there.
 pub record AcceptsOne {R : Type 0} (old new : Opened R) (answer : Accepted Socket) : Type 0 where
   pub arrival : Arrival TcpStream
-  pub comes : IsArrival (λ before after heard. ⊤) old.listener new.listener.acceptor arrival
+  pub comes : IsArrival still_accept old.listener new.listener.acceptor arrival
   pub counted : new.listener ≡ after_arrival arrival new.listener.acceptor old.listener
   pub answers : answer ≡ accepted_of arrival
   pub moment : ℕ
-  pub looks : LooksAt untold_read moment old.lingering new.lingering
+  pub looks : LooksAt still_read moment old.lingering new.lingering
   pub connector : new.connector ≡ old.connector
 
 -- a client that is given has its number as name
@@ -102,7 +112,7 @@ dialed_of G.Failed = D.Failed
 -- the origin is dialed once, and nothing else changes
 pub record DialsOnce {R : Type 0} (old new : Opened R) (answer : Dialed Socket) : Type 0 where
   pub dialing : Dialing TcpStream
-  pub hears : HearsDial (λ before after heard. ⊤) old.connector new.connector dialing
+  pub hears : HearsDial still_connect old.connector new.connector dialing
   pub answers : answer ≡ dialed_of dialing
   pub same : new ≡ record old { connector = new.connector }
 
@@ -115,7 +125,7 @@ Dials answer (Some o) (Some p) = DialsOnce o p answer
 -- a client's write side is shut, and it lingers
 pub record KeepsClient {R : Type 0} (client : Socket) (old new : Opened R) : Type 0 where
   pub moment : ℕ
-  pub keeps : KeepsOne untold_end client.stream moment old.lingering new.lingering
+  pub keeps : KeepsOne still_shut client.stream moment old.lingering new.lingering
   pub same : new ≡ record old { lingering = new.lingering }
 
 -- before a net has begun nobody lingers

@@ -3,26 +3,27 @@ ghost use Rattle.std.specs.Prelude.{◌≡◌};
 ghost use Rattle.ts_socket_net.specs.Opening.{IsOpening, fault_of_address, fault_of_error};
 ghost use Rattle.ts_socket_net.specs.declared.opening.OpenFault.TheVariants.{NoMemory as LacksMemory};
 
-use mio::net::{TcpListener, TcpStream};
+use mio::net::TcpStream;
 use std::alloc::Global;
 use std::io;
 use std::io::ErrorKind;
 use std::net::Net;
 use ts_link::NoMemory;
-use ts_net::{AddressFault, Lingering, Listener, SystemConnector, address_of};
+use ts_net::{AddressFault, Lingering, Listener, SystemConnector, SystemListener, address_of};
 
 /// Who listens, who dials, and the clients that linger.
 #[derive(Drop)]
 pub struct Opened<'a, R> {
-    pub listener: Listener<TcpListener>,
+    pub listener: SystemListener,
     pub connector: SystemConnector<'a, R>,
     pub lingering: Lingering<TcpStream>,
 }
 
-/// Why a net does not begin: a text writes no address or the system refuses to listen, or memory is lacking.
-#[derive(Clone, Copy, Debug, PartialEq, Eq)]
+/// Why a net does not begin: a text writes no address, the system refuses to listen, or memory is lacking.
+#[derive(Clone, Copy, Debug)]
 pub enum OpenFault {
-    Failed,
+    NoAddress,
+    Refused(io::Error),
     NoMemory,
 }
 
@@ -39,7 +40,7 @@ impl From<AddressFault> for OpenFault {
 
     fn from(refusal: AddressFault) -> OpenFault {
         match refusal {
-            AddressFault::NoAddress => OpenFault::Failed,
+            AddressFault::NoAddress => OpenFault::NoAddress,
             AddressFault::NoMemory => OpenFault::NoMemory,
         }
     }
@@ -51,13 +52,13 @@ impl From<io::Error> for OpenFault {
     fn from(error: io::Error) -> OpenFault {
         match error.kind() {
             ErrorKind::OutOfMemory => OpenFault::NoMemory,
-            _ => OpenFault::Failed,
+            _ => OpenFault::Refused(error),
         }
     }
 }
 
-/// Listens at the address that the first text writes, for clients whose origin has the address that the second
-/// one writes.
+/// Listens at the address that the first text writes, for clients whose origin has the address that the
+/// second one writes.
 pub fn open<'a, R: Net>(
     rt: &'a R,
     alloc: Global,

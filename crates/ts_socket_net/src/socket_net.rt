@@ -127,7 +127,7 @@ impl<'a, R: net::Net, C: Clock> Net for SocketNet<'a, R, C> {
                 self.opened = Some(opened);
                 Began::Ready
             }
-            Err(OpenFault::Failed) => {
+            Err(OpenFault::NoAddress | OpenFault::Refused(_)) => {
                 self.counts.faults = self.counts.faults.saturating_add(1);
                 Began::Failed
             }

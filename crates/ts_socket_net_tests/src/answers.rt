@@ -27,7 +27,7 @@ fn clients_come_by_number_and_each_answer_is_counted(rt: HostRuntime) -> Result<
     assert!(rt; accept(&rt, &mut net)?.name() == 2);
     drop(origin);
     assert!(rt; matches!(net.dial(), Dialed::Failed));
-    assert!(rt; net.retire(retired(&rt, served)?).is_ok());
+    assert!(rt; net.retire(retired(&rt, served, None)?).is_ok());
     let counts = net.counts();
     assert!(rt; counts.misdials == 1 && counts.faults == 0 && counts.ends == 0);
     Ok(())

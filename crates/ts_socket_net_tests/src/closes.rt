@@ -1,12 +1,12 @@
 //! A client whose transaction was handed over gets its answer whole, and a clean end, whatever it sent that
 //! nobody read.
-use crate::loopback::{PATIENCE, accept, begin, connect, read_waiting, retired};
+use crate::loopback::{PATIENCE, accept, begin, connect, listen, read_waiting, retired};
 use std::test::Fail;
 use std::{io, net, time};
 use ts_link::{Clock, Got, Link, Put};
-use ts_net::{MonotonicClock, SocketLink};
+use ts_net::{MonotonicClock, SocketLink, StreamLink};
 use ts_socket_net::SocketNet;
-use ts_txn::Net;
+use ts_txn::{Dialed, Net};
 
 // How long the answer is. Of so much the system drops the greater part where a connection is closed over
 // bytes that wait unread.
@@ -58,7 +58,7 @@ fn serve<R: net::Net + time::Clock + AllocGlobal, C: Clock>(
     let _first = read_waiting(rt, &mut served, &mut room);
     let bytes = vec![in rt.alloc(); b'a'; ANSWER]?;
     let heard = answer(&mut served, &mut client, bytes.as_slice())?;
-    match net.retire(retired(rt, served)?) {
+    match net.retire(retired(rt, served, None)?) {
         Ok(()) => Ok((client, heard)),
         Err(_) => Err(io::Error::other("it was not taken")),
     }
@@ -110,5 +110,29 @@ fn an_answer_before_a_second_request_comes_whole_at_the_end(rt: HostRuntime) -> 
     net.finish();
     assert!(rt; clock.now() < before.saturating_add(1_000));
     assert!(rt; hears_all(&rt, &mut client, heard));
+    Ok(())
+}
+
+// Only the client lingers: its origin is closed at once.
+#[test]
+fn an_origin_is_closed_where_its_client_lingers(rt: HostRuntime) -> Result<(), Fail> {
+    let clock = MonotonicClock::new(&rt);
+    let mut net = SocketNet::new(&rt, rt.alloc(), &clock);
+    let (listener, origin_port) = listen(&rt)?;
+    let port = begin(&rt, &mut net, origin_port)?;
+    let mut client = connect(&rt, port)?;
+    let served = accept(&rt, &mut net)?;
+    let Dialed::Origin(dialed) = net.dial() else {
+        panic!(rt; "no origin");
+    };
+    clock.pause(5);
+    let mut origin = StreamLink::new(listener.accept()?.0, 0);
+    assert!(rt; net.retire(retired(&rt, served, Some(dialed))?).is_ok());
+    let mut room = [0u8; 8];
+    assert!(rt; read_waiting(&rt, &mut client, &mut room) == Got::End);
+    assert!(rt; read_waiting(&rt, &mut origin, &mut room) == Got::End);
+    assert!(rt; client.write(b"late") == Put::Took(4) && origin.write(b"late") == Put::Took(4));
+    clock.pause(5);
+    assert!(rt; client.write(b"later") == Put::Took(5) && origin.write(b"later") == Put::Failed);
     Ok(())
 }

@@ -1,10 +1,12 @@
-//! Tests of the net over sockets, each over loopback: what is answered and counted, and what a client gets whose
-//! transaction was handed over.
+//! Tests of the net over sockets, each over loopback: what is answered and counted, what a client gets whose
+//! transaction was handed over, and the whole of `serve`.
 #![tactic(auto)]
 
 #[cfg(test)]
 mod answers;
 #[cfg(test)]
 mod closes;
+#[cfg(test)]
+mod command;
 #[cfg(test)]
 mod loopback;

@@ -26,6 +26,13 @@ pub fn listen<R: Net>(rt: &R) -> io::Result<(TcpListener, u16)> {
     Ok((listener, port))
 }
 
+/// A port at which nobody listens.
+pub fn free_port<R: Net>(rt: &R) -> io::Result<u16> {
+    let (listener, port) = listen(rt)?;
+    drop(listener);
+    Ok(port)
+}
+
 /// A connection to a port of this machine.
 pub fn connect<R: Net>(rt: &R, port: u16) -> io::Result<SocketLink> {
     match dial(&mut SystemConnector::new(rt, local(port))) {
@@ -45,8 +52,7 @@ pub fn begin<R: Net + AllocGlobal, C: Clock>(
     net: &mut SocketNet<'_, R, C>,
     origin: u16,
 ) -> io::Result<u16> {
-    let (listener, port) = listen(rt)?;
-    drop(listener);
+    let port = free_port(rt)?;
     let answer = ts_txn::Net::begin(
         net,
         text_of(rt, port)?.as_str(),
@@ -75,15 +81,16 @@ pub fn accept<R: Net + time::Clock, C: Clock>(
     Err(io::Error::other("no client came"))
 }
 
-/// What is left of a transaction of this client, which had no origin.
+/// What is left of a transaction of this client and its origin, if it had one.
 pub fn retired<R: AllocGlobal>(
     rt: &R,
     client: SocketLink,
+    origin: Option<SocketLink>,
 ) -> io::Result<Retired<SocketLink, SocketLink>> {
     let parts = TxnParts {
         number: client.name(),
         client,
-        origin: None,
+        origin,
         head: 0,
         mode: Mode::Plain,
         client_faults: 0,
