@@ -1,7 +1,7 @@
 -- What the steps of the first thread leave of the door and of the net.
 use Rattle.std.specs.Prelude.{⊤}
-use Rattle.std.proofs.Common.{◌≡◌, ℕ, ◌+◌, ◌<◌, ◌≤◌, Bool, true, false, List, refl, sym, ap, ◌∙◌, subst, Option, arith}
-use Rattle.ts_link.specs.Counts.{Counted, Rose}
+use Rattle.std.proofs.Common.{◌≡◌, ℕ, ◌+◌, ◌<◌, ◌≤◌, Bool, List, refl, sym, ap, ◌∙◌, subst, Option, arith}
+use Rattle.ts_link.specs.Counts.{Counted}
 use Rattle.ts_link.specs.declared.link.Link as link
 use Rattle.ts_upstream.specs.declared.upstream.Upstream as upstream
 use Rattle.ts_txn.specs.Net.{NetSeen}
@@ -19,51 +19,52 @@ use Rattle.ts_slot.specs.Words.{view}
 use Rattle.ts_thread.specs.declared.desk.Desk.{Desk}
 use Rattle.ts_thread.specs.Desks.{KeepsDesk}
 use Rattle.ts_serve.specs.Door.{HasShutCause, IsAccount, IsNotAsked, KeepsDoor, KeepsSome, KeepsDeskSome, GoesOn}
+use Rattle.ts_serve.specs.Door.{saw_end, saw_fault}
 use Rattle.ts_serve.proofs.Books.{books_row}
 use Rattle.ts_serve.proofs.Desks.{desk_stays, desk_some, desk_on, desk_seat}
 
--- a count does not fall
-grown : (b : Bool) (old new : ℕ) → Counted b old new → old ≤ new
-grown true old new rose = omega (arith, rose)
-grown false old new same = omega (arith, same)
-
-rose_on : (first old new : ℕ) → Rose first old → old ≤ new → Rose first new
-rose_on first old new rose more = omega (arith, rose, more)
-
-rose_from : (first old new : ℕ) → first ≤ old → Rose old new → Rose first new
-rose_from first old new more rose = omega (arith, rose, more)
-
 -- a cause stays one
-cause_on : (l : Listening) (first old new : NetCounts) → old.ends ≤ new.ends → old.faults ≤ new.faults
+cause_on : (l : Listening) (first old new : NetCounts) → new.ends ≡ old.ends → new.faults ≡ old.faults
     → HasShutCause l first old → HasShutCause l first new
-cause_on listening.Open first old new ends faults cause = tt
-cause_on listening.Closed first old new ends faults cause = rose_on first.ends old.ends new.ends cause ends
-cause_on listening.Failed first old new ends faults cause =
-    rose_on first.faults old.faults new.faults cause faults
+cause_on l first old new ends faults cause = record {
+  ends = subst (Counted (saw_end l) first.ends) (sym ends) cause.ends;
+  faults = subst (Counted (saw_fault l) first.faults) (sym faults) cause.faults;
+}
 
 module _ {C O : Type 0} where
-  -- the account of a door that lets in as before, of a net whose counts did not fall
+  -- the account of a door that lets in as before, of a net that counted neither an end nor a fault
   account_on : (first : NetCounts) (old new : Door) (before after : NetSeen C O)
-      → new.listening ≡ old.listening → new.came ≤ new.most → before.counts.ends ≤ after.counts.ends
-      → before.counts.faults ≤ after.counts.faults
+      → new.listening ≡ old.listening → new.came ≤ new.most → after.counts.ends ≡ before.counts.ends
+      → after.counts.faults ≡ before.counts.faults
       → IsAccount first old before → IsAccount first new after
   account_on first old new before after same few ends faults was = record {
     few = few;
-    ends = let e = was.ends in omega arith;
-    faults = let e = was.faults in omega arith;
     cause = subst (λ (l : Listening). HasShutCause l first after.counts) (sym same)
         (cause_on old.listening first before.counts after.counts ends faults was.cause);
   }
+
+  -- that of a net that says now why it gives nobody more
+  account_shut : (l : Listening) (first : NetCounts) (old new : Door) (before after : NetSeen C O)
+      → old.listening ≡ listening.Open → new.listening ≡ l → new.came ≡ old.came → new.most ≡ old.most
+      → HasShutCause l before.counts after.counts → IsAccount first old before → IsAccount first new after
+  account_shut l first old new before after was_open shut came most cause was =
+      let still : HasShutCause listening.Open first before.counts =
+      subst (λ (l : Listening). HasShutCause l first before.counts) was_open was.cause in
+      record {
+        few = let few = was.few in omega arith;
+        cause = subst (λ (l : Listening). HasShutCause l first after.counts) (sym shut) (record {
+          ends = subst (λ n. Counted (saw_end l) n after.counts.ends) still.ends cause.ends;
+          faults = subst (λ n. Counted (saw_fault l) n after.counts.faults) still.faults cause.faults;
+        });
+      }
 
   -- a net that was not asked
   pub account_still : (first : NetCounts) (old new : Door) (before after : NetSeen C O)
       → new.listening ≡ old.listening → new.came ≡ old.came → new.most ≡ old.most → IsNotAsked before after
       → IsAccount first old before → IsAccount first new after
   account_still first old new before after same came most still was =
-      let ends : after.counts.ends ≡ before.counts.ends = ap (λ (c : NetCounts). c.ends) still.counts in
-      let faults : after.counts.faults ≡ before.counts.faults = ap (λ (c : NetCounts). c.faults) still.counts in
-      account_on first old new before after same (let few = was.few in omega arith) (omega arith) (omega arith)
-      was
+      account_on first old new before after same (let few = was.few in omega arith)
+      (ap (λ (c : NetCounts). c.ends) still.counts) (ap (λ (c : NetCounts). c.faults) still.counts) was
 
   module _ {clients : link.Ghosts C} {origins : link.Ghosts O} {both : upstream.Ghosts O C} {number : ℕ} where
     -- a client came
@@ -73,9 +74,7 @@ module _ {C O : Type 0} where
         → Receives clients origins both number (arrival.Came client origin) before after
         → IsAccount first old before → IsAccount first new after
     account_came first client origin old new before after same came most low receives was =
-        account_on first old new before after same (omega arith)
-        (grown false before.counts.ends after.counts.ends receives.ends)
-        (grown false before.counts.faults after.counts.faults receives.faults) was
+        account_on first old new before after same (omega arith) receives.ends receives.faults was
 
     -- nobody came
     pub account_nobody : (first : NetCounts) (old new : Door)
@@ -83,39 +82,28 @@ module _ {C O : Type 0} where
         → new.most ≡ old.most → Receives clients origins both number arrival.Nobody before after
         → IsAccount first old before → IsAccount first new after
     account_nobody first old new before after same came most receives was =
-        account_on first old new before after same (let few = was.few in omega arith)
-        (grown false before.counts.ends after.counts.ends receives.ends)
-        (grown false before.counts.faults after.counts.faults receives.faults) was
+        account_on first old new before after same (let few = was.few in omega arith) receives.ends
+        receives.faults was
 
     -- the net was closed
     pub account_closed : (first : NetCounts) (old new : Door)
-        (before after : NetSeen C O) → new.listening ≡ listening.Closed → new.came ≡ old.came
-        → new.most ≡ old.most → Receives clients origins both number arrival.Closed before after
+        (before after : NetSeen C O) → old.listening ≡ listening.Open → new.listening ≡ listening.Closed
+        → new.came ≡ old.came → new.most ≡ old.most
+        → Receives clients origins both number arrival.Closed before after
         → IsAccount first old before → IsAccount first new after
-    account_closed first old new before after shut came most receives was = record {
-      few = let few = was.few in omega arith;
-      ends = let e = was.ends in
-          let more = grown true before.counts.ends after.counts.ends receives.ends in omega arith;
-      faults = let e = was.faults in
-          let more = grown false before.counts.faults after.counts.faults receives.faults in omega arith;
-      cause = subst (λ (l : Listening). HasShutCause l first after.counts) (sym shut)
-          (rose_from first.ends before.counts.ends after.counts.ends was.ends receives.ends);
-    }
+    account_closed first old new before after was_open shut came most receives =
+        account_shut listening.Closed first old new before after was_open shut came most
+        (record { ends = receives.ends; faults = receives.faults })
 
     -- the net failed
     pub account_failed : (first : NetCounts) (old new : Door)
-        (before after : NetSeen C O) → new.listening ≡ listening.Failed → new.came ≡ old.came
-        → new.most ≡ old.most → Receives clients origins both number arrival.Failed before after
+        (before after : NetSeen C O) → old.listening ≡ listening.Open → new.listening ≡ listening.Failed
+        → new.came ≡ old.came → new.most ≡ old.most
+        → Receives clients origins both number arrival.Failed before after
         → IsAccount first old before → IsAccount first new after
-    account_failed first old new before after shut came most receives was = record {
-      few = let few = was.few in omega arith;
-      ends = let e = was.ends in
-          let more = grown false before.counts.ends after.counts.ends receives.ends in omega arith;
-      faults = let e = was.faults in
-          let more = grown true before.counts.faults after.counts.faults receives.faults in omega arith;
-      cause = subst (λ (l : Listening). HasShutCause l first after.counts) (sym shut)
-          (rose_from first.faults before.counts.faults after.counts.faults was.faults receives.faults);
-    }
+    account_failed first old new before after was_open shut came most receives =
+        account_shut listening.Failed first old new before after was_open shut came most
+        (record { ends = receives.ends; faults = receives.faults })
 
 module _ {C O A : Type 0} (tells : Bool) (Done : A → Retired C O → Type 0) (Are : A → Type 0) where
   pub door_stays : (door : Door) (net : NetSeen C O) → KeepsDoor tells Done Are door door net net

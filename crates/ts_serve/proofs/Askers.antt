@@ -1,10 +1,9 @@
--- The groups of a room whose guests are transactions can be asked: those that a transaction asks are the plugins
--- beside the places.
+-- The groups of a room whose guests are transactions can be asked: those that a transaction asks are the
+-- plugins beside the places.
 use Rattle.std.proofs.Common.{◌≡◌, ◌≢◌, ℕ, zero, suc, ◌+◌, ◌<◌, ◌≤◌, List, [], ◌∷◌, ◌++◌, All, length, map}
 use Rattle.std.proofs.Common.{replicate, Bool, true, false, refl, sym, ap, subst, ◌∙◌, arith}
-use Rattle.std.specs.Prelude.{Option, Some, slice_get, ⊤}
+use Rattle.std.specs.Prelude.{Some, slice_get, ⊤}
 use Rattle.std.specs.Arc.{arc_value}
-use Rattle.std.specs.List.{AllZip}
 use Rattle.std.proofs.lemmas.List.Elements.{All-cons, All-nil}
 use Rattle.std.proofs.lemmas.Option.{same_Some}
 use Rattle.std.proofs.lemmas.Slice.Zip.{AllZip-long}

@@ -14,7 +14,7 @@ use Rattle.ts_txn.specs.declared.net.NetCounts.{NetCounts}
 use Rattle.ts_txn.specs.declared.retired.Retired.{Retired}
 use Rattle.ts_serve.specs.declared.booking.Booking.{Booking}
 use Rattle.ts_serve.specs.declared.booking.Booking.TheVariants.{Free, Client}
-use Rattle.ts_serve.specs.Books.{Books, HasAll, IsSameRow, had_number, has_number, is_given, is_taken, lacked_origin, lacks_origin}
+use Rattle.ts_serve.specs.Books.{Books, HasAll, HasNoMore, IsSameRow, had_number, has_number, is_given, is_taken, lacked_origin, lacks_origin}
 
 -- one client more was given, under the next number
 given_next : (given x : ℕ) → within 1 (given + 1 + 1) x ≡ within 1 (given + 1) x + same (given + 1) x
@@ -183,6 +183,31 @@ module _ {C O : Type 0} where
       let booked : sum_by is_taken (set row k (Client number has_origin false)) + 0
       ≡ sum_by is_taken row + 1 =
       row_set is_taken row k Free (Client number has_origin false) below free in omega arith
+
+  -- nor are more booked or handed over than were given
+
+  pub no_more_fresh : (places : ℕ) (net : NetSeen C O) → IsFreshNet net
+      → HasNoMore (replicate places Free) net
+  no_more_fresh places net fresh =
+      let free : sum_by is_taken (replicate places Free) ≡ 0 = free_sum is_taken refl places in
+      let given = fresh.given in let handed = fresh.handed in omega arith
+
+  pub no_more_in : (row : List Booking) (k number : ℕ) (has_origin : Bool) (old new : NetSeen C O)
+      → k < length row → get_or row k Free ≡ Free → new.given ≡ old.given + 1 → IsHandedNothing old new
+      → HasNoMore row old → HasNoMore (set row k (Client number has_origin false)) new
+  no_more_in row k number has_origin old new below free given nothing few =
+      let handed = nothing.handed in
+      let booked : sum_by is_taken (set row k (Client number has_origin false)) + 0
+      ≡ sum_by is_taken row + 1 =
+      row_set is_taken row k Free (Client number has_origin false) below free in omega arith
+
+  pub no_more_out : (row : List Booking) (k number : ℕ) (has_origin started : Bool) (old new : NetSeen C O)
+      → k < length row → get_or row k Free ≡ Client number has_origin started
+      → new.handed ≡ old.handed + 1 → new.given ≡ old.given → HasNoMore row old
+      → HasNoMore (set row k Free) new
+  no_more_out row k number has_origin started old new below found handed given few =
+      let less : sum_by is_taken (set row k Free) + 1 ≡ sum_by is_taken row + 0 =
+      row_set is_taken row k (Client number has_origin started) Free below found in omega arith
 
   pub all_out : (tells : Bool) (row : List Booking) (k number : ℕ) (has_origin started : Bool)
       (retired : Retired C O) (old new : NetSeen C O) → k < length row

@@ -1,5 +1,5 @@
 -- A desk that is split among threads, each of which takes some turns, and joined again.
-use Rattle.std.proofs.Common.{◌≡◌, ℕ, ◌+◌, ◌<◌, ◌≤◌, Bool, arith}
+use Rattle.std.proofs.Common.{ℕ, ◌+◌, Bool, arith}
 use Rattle.ts_journal.specs.declared.slotted.Slotted.{Ghosts}
 use Rattle.ts_queue.specs.declared.queue.EventQueue.{EventQueue}
 use Rattle.ts_slot.specs.declared.slots.Slots.{Slots}

@@ -9,3 +9,4 @@ mod Rooms
 mod Leftovers
 mod Serves
 mod Askers
+mod NowStarted

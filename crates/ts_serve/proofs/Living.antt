@@ -1,5 +1,5 @@
 -- Who lives in a place, from when it is let in until it has ended.
-use Rattle.std.proofs.Common.{◌≡◌, ℕ, suc, ◌+◌, ◌<◌, List, [], ◌∷◌, Bool, false, length, refl, sym, ap, ◌∙◌, subst, arith}
+use Rattle.std.proofs.Common.{◌≡◌, ℕ, suc, ◌+◌, ◌<◌, List, [], ◌∷◌, Bool, false, refl, sym, ap, ◌∙◌, subst, arith}
 use Rattle.ts_lists.proofs.Places.{place_once}
 use Rattle.ts_journal.specs.Log.{Log}
 use Rattle.ts_journal.proofs.Final.{IsKept, is_final}

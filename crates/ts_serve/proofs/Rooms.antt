@@ -1,7 +1,6 @@
 -- The groups of a room: as they are made each fits its tag, and as they are left too.
 use Rattle.std.proofs.Common.{◌≡◌, ℕ, zero, suc, ◌+◌, ◌<◌, List, [], ◌∷◌, ◌++◌, Bool, true, false, All}
 use Rattle.std.proofs.Common.{length, length-append, map, replicate, refl, sym, ap, ◌∙◌, subst, arith}
-use Rattle.std.specs.Bool.{OnTrue}
 use Rattle.std.proofs.lemmas.Bool.{OnTrue_from}
 use Rattle.std.proofs.lemmas.List.{append_assoc, length-map, length-replicate}
 use Rattle.std.proofs.lemmas.List.Elements.{All-head, All-nil, All-push, All-tail}
@@ -13,7 +12,7 @@ use Rattle.ts_lists.proofs.Places.{place_once}
 use Rattle.ts_journal.specs.State.{State}
 use Rattle.ts_group.specs.declared.action.Named.{Named}
 use Rattle.ts_group.specs.declared.either.Either.{Either}
-use Rattle.ts_group.specs.declared.either.Either.TheVariants.{One, Other}
+use Rattle.ts_group.specs.declared.either.Either.TheVariants.{Other}
 use Rattle.ts_group.specs.declared.either.EitherTag.{EitherTag}
 use Rattle.ts_group.specs.declared.either.EitherTag.TheVariants as tag
 use Rattle.ts_group.specs.declared.group.Group.{Group}
@@ -25,7 +24,7 @@ use Rattle.ts_thread.specs.Tags.{GroupFits}
 use Rattle.ts_thread.specs.Threads.{HasHadTurns}
 use Rattle.ts_thread.proofs.Ended.{fit_count}
 use Rattle.ts_serve.specs.Door.{HasPlacesOf}
-use Rattle.ts_serve.specs.Guests.{FitPlaces, FitsTerms, IsEmptyGroup, IsPlaceOf}
+use Rattle.ts_serve.specs.Guests.{FitPlaces, IsEmptyGroup}
 use Rattle.ts_serve.specs.Opening.{AreNewGroups, FitRoom}
 use Rattle.ts_serve.specs.Places.{PlaceFits, PlaceSound}
 use Rattle.ts_serve.specs.Rooms.{StandsBeside, room_tags}

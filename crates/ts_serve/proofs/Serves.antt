@@ -1,5 +1,5 @@
 -- What serving a net comes to, from the room as it is opened to the books and the account at the end.
-use Rattle.std.proofs.Common.{◌≡◌, ℕ, ◌+◌, ◌<◌, ◌≤◌, inl, inr, Bool, true, List, [], replicate, length, refl, sym, ap, ◌∙◌, subst, arith}
+use Rattle.std.proofs.Common.{◌≡◌, ℕ, ◌≤◌, ◌⊎◌, inl, inr, Bool, true, List, [], replicate, length, refl, sym, ap, ◌∙◌, subst, arith}
 use Rattle.std.proofs.lemmas.List.{length-replicate}
 use Rattle.std.proofs.lemmas.List.Elements.{All-nil}
 use Rattle.ts_journal.specs.declared.slotted.Slotted.{Ghosts}
@@ -17,7 +17,6 @@ use Rattle.ts_thread.specs.Tokens.{AllName}
 use Rattle.ts_thread.specs.Threads.{CanSplit}
 use Rattle.ts_thread.specs.declared.TheConstants.{MOST_THREADS}
 use Rattle.ts_txn.specs.Net.{IsFreshNet, NetSeen}
-use Rattle.ts_txn.specs.declared.net.NetCounts.{NetCounts}
 use Rattle.ts_txn.specs.declared.retired.Retired.{Retired}
 use Rattle.ts_serve.specs.declared.booking.Booking.{Booking}
 use Rattle.ts_serve.specs.declared.booking.Booking.TheVariants.{Free}
@@ -26,11 +25,11 @@ use Rattle.ts_serve.specs.declared.door.Listening.{Listening}
 use Rattle.ts_serve.specs.declared.door.Listening.TheVariants as listening
 use Rattle.ts_serve.specs.declared.door.Served.TheVariants as served
 use Rattle.ts_serve.specs.declared.door.TheConstants.{PLACES}
-use Rattle.ts_serve.specs.Books.{Books, HasAll, KeepsBooks}
+use Rattle.ts_serve.specs.Books.{Books, HasAll, HasNoMore, KeepsBooks}
 use Rattle.ts_serve.specs.Door.{HasShutCause, IsAccount, IsDoorOf, IsNotAsked, IsOver, KeepsDoor, LosesNobody}
 use Rattle.ts_serve.specs.Opening.{IsNewDoor, IsNewRoom}
-use Rattle.ts_serve.specs.Served.{AreRetired, HasEndedFor, IsServed, served_by}
-use Rattle.ts_serve.proofs.Books.{all_fresh, books_fresh}
+use Rattle.ts_serve.specs.Served.{AreRetired, HasEndedFor, HasNotFailed, IsNotClosed, IsServed, served_by}
+use Rattle.ts_serve.proofs.Books.{all_fresh, books_fresh, no_more_fresh}
 
 -- what can be split among the most threads can be split among fewer
 pub splits_few : {X G T : Type 0} {d : Ghosts X G T} (threads : ℕ) (seat : Seat X G T d) (pass : QueuePass)
@@ -89,6 +88,7 @@ module _ {C O : Type 0} where
         row = ap length new.row ∙ length-replicate PLACES Free;
         next = omega (arith, next);
         came = new.came ∙ sym fresh.given;
+        no_more = subst (λ row. HasNoMore row net) (sym new.row) (no_more_fresh PLACES net fresh);
       }
 
   -- with its first account
@@ -98,9 +98,8 @@ module _ {C O : Type 0} where
       let came = new.came in
       record {
         few = omega (arith, came);
-        ends = omega arith;
-        faults = omega arith;
-        cause = subst (λ (l : Listening). HasShutCause l net.counts net.counts) (sym new.listening) tt;
+        cause = subst (λ (l : Listening). HasShutCause l net.counts net.counts) (sym new.listening)
+            (record { ends = refl; faults = refl });
       }
 
   -- and its first books
@@ -133,16 +132,25 @@ module _ {C O : Type 0} where
 
   pub served_none : (most : ℕ) (net : NetSeen C O) → IsFreshNet net → IsServed served.NoMemory most net net
   served_none most net fresh =
-      let none = fresh.given in record { few = omega (arith, none); ended = tt }
+      let none = fresh.given in
+      let nothing = fresh.handed in
+      record { few = omega (arith, none); no_more = omega (arith, none, nothing); shut = inl refl; ended = tt }
+
+  -- once it is closed or failed, a net is asked for nobody more
+  shut_by : (l : Listening) (old new : NetSeen C O) → HasShutCause l old.counts new.counts
+      → HasNotFailed old new ⊎ IsNotClosed old new
+  shut_by listening.Open old new cause = inl cause.faults
+  shut_by listening.Closed old new cause = inl cause.faults
+  shut_by listening.Failed old new cause = inr cause.ends
 
   -- the cause for which nobody more is let in, once nobody is booked, is that for which serving ended
   ended_for : (l : Listening) (most came : ℕ) (old new : NetSeen C O) → came ≡ new.given → came ≤ most
       → (l ≡ listening.Open → most ≤ came) → new.handed ≡ new.given → HasShutCause l old.counts new.counts
       → HasEndedFor (served_by l) most old new
   ended_for listening.Open most came old new is few shut all cause =
-      let more = shut refl in (all, inl (omega (arith, is, few, more)))
-  ended_for listening.Closed most came old new is few shut all cause = (all, inr cause)
-  ended_for listening.Failed most came old new is few shut all cause = (all, cause)
+      let more = shut refl in (all, cause.faults, inl (omega (arith, is, few, more)))
+  ended_for listening.Closed most came old new is few shut all cause = (all, cause.faults, inr cause.ends)
+  ended_for listening.Failed most came old new is few shut all cause = (all, cause.ends, cause.faults)
 
   pub served_whole : (most : ℕ) (door : Door) (old new : NetSeen C O) → door.most ≡ most
       → IsDoorOf door new → IsAccount old.counts door new → IsOver door → HasAll door.row.items new
@@ -152,22 +160,31 @@ module _ {C O : Type 0} where
       let low = account.few in
       let nobody = over.nobody in
       let few : door.came ≤ most = omega (arith, most_is, low) in
+      let no_more = is.no_more in
       record {
         few = omega (arith, came, few);
+        no_more = omega (arith, no_more);
+        shut = shut_by door.listening old new account.cause;
         ended = ended_for door.listening most door.came old new came few
             (λ still. let more = over.shut still in omega (arith, most_is, more)) (omega (arith, all, nobody))
             account.cause;
       }
 
-  -- where memory lacked, no more clients came than were to
-  pub served_few : (most : ℕ) (door : Door) (old now new : NetSeen C O) → door.most ≡ most
-      → IsDoorOf door now → IsAccount old.counts door now → IsNotAsked now new
-      → IsServed served.NoMemory most old new
-  served_few most door old now new most_is is account same =
+  -- where memory lacked, no more clients came than were to, and no more were handed over
+  pub served_few : (most : ℕ) (door : Door) (again : List Booking) (old now new : NetSeen C O)
+      → door.most ≡ most → IsDoorOf door now → IsAccount old.counts door now → IsNotAsked now new
+      → HasNoMore again new → IsServed served.NoMemory most old new
+  served_few most door again old now new most_is is account same no_more =
       let came = is.came in
       let low = account.few in
       let given = same.given in
-      record { few = omega (arith, most_is, came, low, given); ended = tt }
+      record {
+        few = omega (arith, most_is, came, low, given);
+        no_more = omega (arith, no_more);
+        shut = shut_by door.listening old new
+            (subst (λ counts. HasShutCause door.listening old.counts counts) (sym same.counts) account.cause);
+        ended = tt;
+      }
 
 -- What the threads leave of a new door and of a fresh net.
 module _ {C O A : Type 0} (tells : Bool) (Done : A → Retired C O → Type 0) (Are : A → Type 0) (most : ℕ)
@@ -196,7 +213,8 @@ module _ {C O A : Type 0} (tells : Bool) (Done : A → Retired C O → Type 0) (
       retired_of (Done terms) again old after
       (books telling terms are old.counts.misdials (books_now telling terms are))
 
-  pub lacked_served : (after : NetSeen C O) → IsDoorOf last now → IsNotAsked now after
+  pub lacked_served : (again : List Booking) (after : NetSeen C O) → IsDoorOf last now
+      → IsNotAsked now after → (HasNoMore last.row.items now → HasNoMore again after)
       → IsServed served.NoMemory most old after
-  lacked_served after is same = served_few most last old now after (keeps.most ∙ new.most_is) is
-      (keeps.account old.counts (account_first most first old new)) same
+  lacked_served again after is same on = served_few most last again old now after (keeps.most ∙ new.most_is)
+      is (keeps.account old.counts (account_first most first old new)) same (on is.no_more)

@@ -68,6 +68,10 @@ module _ {C O : Type 0} where
   abbrev pub HasAll : List Booking → NetSeen C O → Type 0
   HasAll row net = net.handed + sum_by is_taken row ≡ net.given
 
+  -- no more clients are booked, or were handed over, than were given
+  abbrev pub HasNoMore : List Booking → NetSeen C O → Type 0
+  HasNoMore row net = net.handed + sum_by is_taken row ≤ net.given
+
   -- the row once who came to the place k is booked
   abbrev pub row_after : ℕ → ℕ → Arrival C O → List Booking → List Booking
   row_after k number (arrival.Came client origin) row = set row k (Client number (is_some origin) false)

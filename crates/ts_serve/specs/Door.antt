@@ -1,8 +1,8 @@
 -- The door: what the first thread keeps of the clients that come, and what each of its steps leaves of that
 -- and of the net.
-use Rattle.std.specs.Prelude.{⊤, ◌≡◌, ℕ, ◌<◌, ◌≤◌, Bool, true, List, length}
+use Rattle.std.specs.Prelude.{◌≡◌, ℕ, ◌<◌, ◌≤◌, Bool, true, false, List, length}
 use Rattle.std.specs.List.{sum_by}
-use Rattle.ts_link.specs.Counts.{Rose}
+use Rattle.ts_link.specs.Counts.{Counted}
 use Rattle.ts_group.specs.declared.either.EitherTag.{EitherTag}
 use Rattle.ts_journal.specs.declared.slotted.Slotted.{Ghosts}
 use Rattle.ts_slot.specs.declared.view.SeatView.{SeatView}
@@ -16,7 +16,7 @@ use Rattle.ts_serve.specs.declared.door.TheConstants.{PLACES}
 use Rattle.ts_serve.specs.declared.door.Door.{Door}
 use Rattle.ts_serve.specs.declared.door.Listening.{Listening}
 use Rattle.ts_serve.specs.declared.door.Listening.TheVariants as listening
-use Rattle.ts_serve.specs.Books.{Books, HasAll, is_taken}
+use Rattle.ts_serve.specs.Books.{Books, HasAll, HasNoMore, is_taken}
 use Rattle.ts_serve.specs.Guests.{IsPlace, IsPlaceOf}
 
 -- the first groups are places
@@ -37,25 +37,34 @@ pub record IsOpenRoom {S A U : Type 0} (IsSetting : S → Type 0) (AreTerms : S 
   pub makes : IsSetting setting
   pub room : IsRoomOf AreTerms setting tags
 
--- why nobody more is let in, where the net gives nobody more: the count of that answer rose
-abbrev pub HasShutCause : Listening → NetCounts → NetCounts → Type 0
-HasShutCause listening.Open old new = ⊤
-HasShutCause listening.Closed old new = Rose old.ends new.ends
-HasShutCause listening.Failed old new = Rose old.faults new.faults
+-- whether the net said that it is closed, and that it failed
+abbrev pub saw_end : Listening → Bool
+saw_end listening.Closed = true
+saw_end _ = false
+
+abbrev pub saw_fault : Listening → Bool
+saw_fault listening.Failed = true
+saw_fault _ = false
+
+-- Why nobody more is let in, where the net gives nobody more: the count of that answer rose, and while more
+-- are let in neither did. Once it is closed or failed, the net is not asked again.
+pub record HasShutCause (listening : Listening) (old new : NetCounts) : Type 0 where
+  pub ends : Counted (saw_end listening) old.ends new.ends
+  pub faults : Counted (saw_fault listening) old.faults new.faults
 
 -- The door's account of a net, which had these counts at first: no more clients came than were to, and where
 -- the net gives nobody more, there is a cause.
 pub record IsAccount {C O : Type 0} (first : NetCounts) (door : Door) (net : NetSeen C O) : Type 0 where
   pub few : door.came ≤ door.most
-  pub ends : first.ends ≤ net.counts.ends
-  pub faults : first.faults ≤ net.counts.faults
   pub cause : HasShutCause door.listening first net.counts
 
--- The door of a net: it has a booking for each place, and as many clients came as the net gave.
+-- The door of a net: it has a booking for each place, as many clients came as the net gave, and no more of
+-- them are booked, or were handed over.
 pub record IsDoorOf {C O : Type 0} (door : Door) (net : NetSeen C O) : Type 0 where
   pub row : length door.row.items ≡ PLACES
   pub next : door.next < PLACES
   pub came : door.came ≡ net.given
+  pub no_more : HasNoMore door.row.items net
 
 -- What a step of the first thread leaves of the door and of the net. Where the net tells what it was handed,
 -- the books stay right, of places of any terms that are these.

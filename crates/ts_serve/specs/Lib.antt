@@ -11,3 +11,4 @@ pub mod Opening
 pub mod Leftover
 pub mod Served
 pub mod Transactions
+pub mod Starting

@@ -1,5 +1,5 @@
 -- A room as it is opened, before anything was done in it.
-use Rattle.std.specs.Prelude.{◌≡◌, ℕ, List, [], All, Bool, false, length, replicate}
+use Rattle.std.specs.Prelude.{◌≡◌, ℕ, List, [], All, Bool, false, replicate}
 use Rattle.ts_journal.specs.State.{State}
 use Rattle.ts_journal.specs.declared.slotted.Slotted.{Ghosts}
 use Rattle.ts_group.specs.declared.action.Named.{Named}

@@ -27,19 +27,33 @@ module _ {C O : Type 0} where
     pub dialed : (old.counts.misdials + sum_by lacked_origin new.retired ≤ new.counts.misdials)
         ⊎ (greatest ≤ new.counts.misdials)
 
+  -- no call of it failed, and none said that it is closed
+  abbrev pub HasNotFailed : NetSeen C O → NetSeen C O → Type 0
+  HasNotFailed old new = new.counts.faults ≡ old.counts.faults
+
+  abbrev pub IsNotClosed : NetSeen C O → NetSeen C O → Type 0
+  IsNotClosed old new = new.counts.ends ≡ old.counts.ends
+
   -- Of each client that the net gave, what is left of it was handed over.
   abbrev pub HandsAllOver : NetSeen C O → Type 0
   HandsAllOver net = net.handed ≡ net.given
 
-  -- Why serving a net ended so: it gave as many clients as were to come, or it is closed; or it failed. What
-  -- is left of each client was handed over then. Where memory lacked, nothing is said.
+  -- Why serving a net ended so: it gave as many clients as were to come, or is closed, and did not fail; or
+  -- it failed, and is not closed. What is left of each client was handed over then.
   abbrev pub HasEndedFor : Served → ℕ → NetSeen C O → NetSeen C O → Type 0
   HasEndedFor served.Whole most old new =
-      HandsAllOver new × ((new.given ≡ most) ⊎ Rose old.counts.ends new.counts.ends)
-  HasEndedFor served.Failed most old new = HandsAllOver new × Rose old.counts.faults new.counts.faults
+      HandsAllOver new × HasNotFailed old new × ((new.given ≡ most) ⊎ Rose old.counts.ends new.counts.ends)
+  HasEndedFor served.Failed most old new =
+      HandsAllOver new × IsNotClosed old new × Rose old.counts.faults new.counts.faults
   HasEndedFor served.NoMemory most old new = ⊤
 
-  -- What the net gave and counted while it was served, and why that ended.
+  -- What the net gave, was handed and counted while it was served, whatever the answer, and why that ended.
+  -- Where memory lacked, this is all that is said of it.
   pub record IsServed (result : Served) (most : ℕ) (old new : NetSeen C O) : Type 0 where
+    -- no more clients came than were to
     pub few : new.given ≤ most
+    -- and no more are handed over than came
+    pub no_more : new.handed ≤ new.given
+    -- once it is closed or failed, it is asked for nobody more
+    pub shut : HasNotFailed old new ⊎ IsNotClosed old new
     pub ended : HasEndedFor result most old new

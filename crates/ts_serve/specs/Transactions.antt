@@ -63,10 +63,10 @@ pub record IsLeftOf {C O Q : Type 0} (t : Txn C O Q) (parts : TxnParts C O) : Ty
   pub origin_faults : parts.origin_faults ≡ base_if t.core.origin
   pub end : parts.end ≡ end_of_course t.course
 
--- What is left of a transaction that has ended in its place: it had this setup and its plugins from this group
--- on, its number is the name of its client's link, it is sound, it has an end, for which there is a cause, and
--- of which holds what holds of that end, it sent one request and behind that one response at most, and the
--- journal of its group is at rest with nothing pending.
+-- What is left of a transaction that has ended in its place: it had this setup and its plugins from this
+-- group on, its number is the name of its client's link, it is sound, it has an end, for which there is a
+-- cause, and of which holds what holds of that end, it sent one request and behind that one response at most,
+-- and the journal of its group is at rest with nothing pending.
 pub record IsTxnDone {C O Q : Type 0} (client : link.Ghosts C) (origin : link.Ghosts O)
     (both : upstream.Ghosts O C) (stage : transform.Ghosts Q TransformLine) (setup : Setup) (plugins_at : ℕ)
     (r : Retired C O) : Type 0 where

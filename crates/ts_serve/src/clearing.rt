@@ -2,7 +2,7 @@
 //! net.
 
 ghost use Rattle.std.specs.Prelude.{◌≡◌, ◌<◌, ℕ, length};
-ghost use Rattle.ts_serve.specs.Books.{KeepsBooks};
+ghost use Rattle.ts_serve.specs.Books.{HasNoMore, KeepsBooks};
 ghost use Rattle.ts_serve.specs.Door.{IsNotAsked};
 ghost use Rattle.ts_serve.specs.Guests.{FitPlaces, FitsTerms};
 
@@ -29,6 +29,7 @@ pub fn clear_place<
     ensures books { KeepsBooks N.tells W.is_done
         (λ terms. FitsTerms W.fits W.keeps W.sound P.fits P.sound P.only_asked P.is_first terms group)
         row.old.items (N.seen net.old) row.new.items (N.seen net.new) }
+    ensures no_more { HasNoMore row.old.items (N.seen net.old) → HasNoMore row.new.items (N.seen net.new) }
     ensures net { IsNotAsked (N.seen net.old) (N.seen net.new) }
 {
     let Booking::Client {
@@ -59,6 +60,7 @@ pub fn clear_places<
     ensures books { KeepsBooks N.tells W.is_done
         (λ terms. FitPlaces W.fits W.keeps W.sound P.fits P.sound P.only_asked P.is_first terms groups.items)
         row.old.items (N.seen net.old) row.new.items (N.seen net.new) }
+    ensures no_more { HasNoMore row.old.items (N.seen net.old) → HasNoMore row.new.items (N.seen net.new) }
     ensures net { IsNotAsked (N.seen net.old) (N.seen net.new) }
 {
     let mut rest = VecDeque::from_vec(groups);

@@ -4,7 +4,7 @@ ghost use Rattle.std.specs.Prelude.{◌≡◌, [], length};
 ghost use Rattle.ts_slot.specs.Limits.{whole_share};
 ghost use Rattle.ts_slot.specs.Words.{tags_of, view};
 ghost use Rattle.ts_thread.specs.Desks.{IsDeskOf};
-ghost use Rattle.ts_serve.specs.Books.{KeepsBooks};
+ghost use Rattle.ts_serve.specs.Books.{HasNoMore, KeepsBooks};
 ghost use Rattle.ts_serve.specs.Door.{HasPlacesOf, IsNotAsked};
 ghost use Rattle.ts_serve.specs.Rooms.{CanAskInRoom};
 
@@ -48,6 +48,7 @@ where
     requires places { length row.old.items ≡ PLACES }
     ensures books { KeepsBooks N.tells W.is_done (HasPlacesOf (tags_of room.slots))
         row.old.items (N.seen net.old) row.new.items (N.seen net.new) }
+    ensures no_more { HasNoMore row.old.items (N.seen net.old) → HasNoMore row.new.items (N.seen net.new) }
     ensures net { IsNotAsked (N.seen net.old) (N.seen net.new) }
 {
     let Room {

@@ -1,7 +1,7 @@
 //! The event threads of a room: the first, which keeps the door, and those that help it, joined again once it
 //! is done.
 
-ghost use Rattle.std.specs.Prelude.{◌≡◌, ◌≤◌, OnOk};
+ghost use Rattle.std.specs.Prelude.{◌≡◌, ◌<◌, ◌≤◌, OnOk};
 ghost use Rattle.ts_slot.specs.Words.{tags_of};
 ghost use Rattle.ts_thread.specs.declared.TheConstants.{MOST_THREADS};
 ghost use Rattle.ts_thread.specs.Desks.{IsDeskOf};
@@ -106,6 +106,120 @@ fn take_back<N>(net: &mut N)
     ensures { net.new ≡ net.old }
 {}
 
+// The first thread keeps the door alone.
+fn keep_alone<
+    N: DoorNet,
+    W: Guest<N::Client, N::Origin> + Drop,
+    P: World<Question = W::Question, Reply = W::Reply> + Drop,
+    G: Gate,
+    C: Clock,
+    R: Wait,
+>(
+    rt: &R,
+    alloc: Global,
+    setting: &W::Setting,
+    slots: &Slots<PlaceGroup<W, P>>,
+    queue: &EventQueue,
+    gate: &G,
+    clock: &C,
+    stop: &AtomicBool,
+    net: &mut N,
+    mut desk: Desk<PlaceGroup<W, P>>,
+    mut door: Door,
+) -> Kept<PlaceGroup<W, P>>
+    requires room { IsOpenRoom W.is_setting W.are_terms setting.now (tags_of slots.now) }
+    requires asks { CanAskInRoom W.fits W.keeps W.may_ask W.right W.answers
+        P.fits P.only_asked P.may_ask P.right P.answers (tags_of slots.now) }
+    requires here { IsDeskOf slots.now queue.now desk × IsDoorOf door (N.seen net.old) }
+    ensures here { IsDeskOf slots.now queue.now result.desk × IsDoorOf result.door (N.seen net.new) }
+    ensures goes { GoesOn N.tells W.is_done (HasPlacesOf (tags_of slots.now))
+        desk result.desk door result.door (N.seen net.old) (N.seen net.new) }
+    ensures over { OnOk result.ended (IsOver result.door) }
+    ensures all { OnOk result.ended (LosesNobody door result.door (N.seen net.old) (N.seen net.new)) }
+{
+    let ended = keep_door(
+        rt, alloc, setting, slots, queue, gate, clock, stop, net, &mut desk, &mut door,
+    );
+    Kept { desk, door, ended }
+}
+
+// Of so many threads, more than one, the first keeps the door beside the others, each with a part of the
+// desk.
+fn keep_beside<
+    N: DoorNet,
+    W: Guest<N::Client, N::Origin> + Drop + Send,
+    P: World<Question = W::Question, Reply = W::Reply> + Drop + Send,
+    G: Gate + Sync,
+    C: Clock + Sync,
+    R: Threads + Wait + Sync,
+>(
+    rt: &R,
+    alloc: Global,
+    setting: &W::Setting,
+    threads: u32,
+    slots: &Slots<PlaceGroup<W, P>>,
+    queue: &EventQueue,
+    gate: &G,
+    clock: &C,
+    stop: &AtomicBool,
+    net: &mut N,
+    mut desk: Desk<PlaceGroup<W, P>>,
+    door: Door,
+) -> Kept<PlaceGroup<W, P>>
+    requires room { IsOpenRoom W.is_setting W.are_terms setting.now (tags_of slots.now) }
+    requires asks { CanAskInRoom W.fits W.keeps W.may_ask W.right W.answers
+        P.fits P.only_asked P.may_ask P.right P.answers (tags_of slots.now) }
+    requires helps { CanHelp slots.now queue.now threads desk × (1 < threads) × (threads ≤ MOST_THREADS) }
+    requires door { IsDoorOf door (N.seen net.old) }
+    ensures here { IsDeskOf slots.now queue.now result.desk × IsDoorOf result.door (N.seen net.new) }
+    ensures goes { GoesOn N.tells W.is_done (HasPlacesOf (tags_of slots.now))
+        desk result.desk door result.door (N.seen net.old) (N.seen net.new) }
+    ensures over { OnOk result.ended (IsOver result.door) }
+    ensures all { OnOk result.ended (LosesNobody door result.door (N.seen net.old) (N.seen net.new)) }
+{
+    let Ok(first) = desk.split(alloc, slots, queue) else {
+        return Kept {
+            desk,
+            door,
+            ended: Err(NoMemory),
+        };
+    };
+    let task = DoorTask {
+        rt,
+        alloc,
+        setting,
+        slots,
+        queue,
+        gate,
+        clock,
+        stop,
+        net,
+        desk: first,
+        door,
+    };
+    let (mut desk, (net, kept)) = run_beside(
+        rt,
+        alloc,
+        SECOND,
+        threads - 1,
+        slots,
+        queue,
+        gate,
+        clock,
+        stop,
+        desk,
+        task,
+    );
+    take_back(net);
+    let Kept {
+        desk: first,
+        door,
+        ended,
+    } = kept;
+    desk.join(slots, queue, first);
+    Kept { desk, door, ended }
+}
+
 /// Serves the net with so many event threads. The first of them is this one and keeps the door; the others
 /// take turns until it is done. Where no thread can be made, it does all the work. Where memory lacks in one
 /// of them, they all stop.
@@ -141,53 +255,12 @@ pub fn run_event_threads<
     ensures all { OnOk result.ended (LosesNobody door result.door (N.seen net.old) (N.seen net.new)) }
 {
     let stop = AtomicBool::new(false);
-    let mut desk = desk;
     if threads == 1 {
-        let mut door = door;
-        let ended = keep_door(
-            rt, alloc, setting, slots, queue, gate, clock, &stop, net, &mut desk, &mut door,
+        return keep_alone(
+            rt, alloc, setting, slots, queue, gate, clock, &stop, net, desk, door,
         );
-        return Kept { desk, door, ended };
     }
-    let Ok(first) = desk.split(alloc, slots, queue) else {
-        return Kept {
-            desk,
-            door,
-            ended: Err(NoMemory),
-        };
-    };
-    let task = DoorTask {
-        rt,
-        alloc,
-        setting,
-        slots,
-        queue,
-        gate,
-        clock,
-        stop: &stop,
-        net,
-        desk: first,
-        door,
-    };
-    let (mut desk, (net, kept)) = run_beside(
-        rt,
-        alloc,
-        SECOND,
-        threads - 1,
-        slots,
-        queue,
-        gate,
-        clock,
-        &stop,
-        desk,
-        task,
-    );
-    take_back(net);
-    let Kept {
-        desk: first,
-        door,
-        ended,
-    } = kept;
-    desk.join(slots, queue, first);
-    Kept { desk, door, ended }
+    keep_beside(
+        rt, alloc, setting, threads, slots, queue, gate, clock, &stop, net, desk, door,
+    )
 }

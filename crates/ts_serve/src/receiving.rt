@@ -3,9 +3,9 @@
 ghost use Rattle.std.specs.Prelude.{◌≡◌, ◌+◌, ◌<◌, ℕ, true, length, get_or};
 ghost use Rattle.ts_serve.specs.declared.booking.Booking.TheVariants as Booking;
 ghost use Rattle.ts_serve.specs.Arrivals.{Receives};
-ghost use Rattle.ts_serve.specs.Books.{Books, HasAll, row_after};
+ghost use Rattle.ts_serve.specs.Books.{Books, HasAll, HasNoMore, row_after};
 
-use crate::booking::Booking;
+use crate::booking::{Booking, book_client};
 use crate::door_net::DoorNet;
 use crate::guest::Guest;
 use ts_txn::{Accepted, Dialed};
@@ -40,6 +40,7 @@ pub fn receive<N: DoorNet, W: Guest<N::Client, N::Origin>>(
         → Books (W.is_done terms) misdials row.old.items (N.seen net.old)
         → Books (W.is_done terms) misdials row.new.items (N.seen net.new) }
     ensures all { HasAll row.old.items (N.seen net.old) → HasAll row.new.items (N.seen net.new) }
+    ensures no_more { HasNoMore row.old.items (N.seen net.old) → HasNoMore row.new.items (N.seen net.new) }
 {
     let client = match net.accept() {
         Accepted::Client(client) => client,
@@ -49,22 +50,14 @@ pub fn receive<N: DoorNet, W: Guest<N::Client, N::Origin>>(
     };
     match net.dial() {
         Dialed::Origin(origin) => {
-            row[k as usize] = Booking::Client {
-                number,
-                has_origin: true,
-                started: false,
-            };
+            book_client(row, k, number, true);
             Arrival::Came {
                 client,
                 origin: Some(origin),
             }
         }
         Dialed::Failed => {
-            row[k as usize] = Booking::Client {
-                number,
-                has_origin: false,
-                started: false,
-            };
+            book_client(row, k, number, false);
             Arrival::Came {
                 client,
                 origin: None,

@@ -1,9 +1,9 @@
 //! How a guest that has ended is taken out of its place, and what is left of it handed to the net.
 
-ghost use Rattle.std.specs.Prelude.{◌≡◌, ◌<◌, ℕ, true, false, length, IfOk, IfSome, OnOk, OnErr};
+ghost use Rattle.std.specs.Prelude.{◌≡◌, ◌+◌, ◌<◌, ℕ, true, false, length, IfOk, IfSome, OnOk, OnErr};
 ghost use Rattle.ts_slot.specs.Words.{tags_of, view, IsSeatOf};
 ghost use Rattle.ts_thread.specs.Seats.{KeepsSeat, Leaves};
-ghost use Rattle.ts_serve.specs.Books.{Books, HasAll};
+ghost use Rattle.ts_serve.specs.Books.{Books, HasAll, HasNoMore};
 ghost use Rattle.ts_serve.specs.Door.{IsNotAsked};
 ghost use Rattle.ts_serve.specs.Entering.{Finds};
 ghost use Rattle.ts_serve.specs.Guests.{FitsTerms, HandsOver, HoldsEnded, IsPlace, IsPlaceOf};
@@ -63,6 +63,7 @@ pub fn hand_over<
     ensures ok { OnOk result ((terms : W.Terms)
         → FitsTerms W.fits W.keeps W.sound P.fits P.sound P.only_asked P.is_first terms group
         → HandsOver N.tells (W.is_done terms) number has_origin (N.seen net.old) (N.seen net.new)) }
+    ensures more { OnOk result ((N.seen net.new).handed ≡ (N.seen net.old).handed + 1) }
     ensures net { IsNotAsked (N.seen net.old) (N.seen net.new) }
     ensures err { OnErr result (N.seen net.new ≡ N.seen net.old) }
 {
@@ -163,8 +164,7 @@ pub fn take_out_at<
 ) -> Result<(), NoMemory>
     requires seat { IsSeatOf slots.now seat.old }
     requires place { IsPlace (tags_of slots.now) k × (k < length row.old.items) }
-    ensures seat { IsSeatOf slots.now seat.new }
-    ensures keeps { KeepsSeat (view seat.old) (view seat.new) 1 }
+    ensures seat { IsSeatOf slots.now seat.new × KeepsSeat (view seat.old) (view seat.new) 1 }
     ensures row { length row.new.items ≡ length row.old.items }
     ensures books { N.tells ≡ true → (terms : W.Terms) → IsPlaceOf (tags_of slots.now) k terms
         → (misdials : ℕ)
@@ -172,6 +172,7 @@ pub fn take_out_at<
         → Books (W.is_done terms) misdials row.new.items (N.seen net.new) }
     ensures all { OnOk result
         (HasAll row.old.items (N.seen net.old) → HasAll row.new.items (N.seen net.new)) }
+    ensures no_more { HasNoMore row.old.items (N.seen net.old) → HasNoMore row.new.items (N.seen net.new) }
     ensures net { IsNotAsked (N.seen net.old) (N.seen net.new) }
 {
     let Booking::Client {

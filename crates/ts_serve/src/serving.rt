@@ -149,11 +149,11 @@ pub fn keep_door<
     ensures all { OnOk result (LosesNobody door.old door.new (N.seen net.old) (N.seen net.new)) }
 {
     'rounds: for _ in rt.forever() {
-        if is_over(door) {
-            return Ok(());
-        }
         if stop.load(Ordering::SeqCst) {
             return Err(NoMemory);
+        }
+        if is_over(door) {
+            return Ok(());
         }
         let moment = clock.now();
         if take_round(

@@ -2,10 +2,11 @@
 
 ghost use Rattle.std.specs.Prelude.{◌≡◌, ◌<◌, length};
 ghost use Rattle.ts_slot.specs.Words.{tags_of};
-ghost use Rattle.ts_thread.specs.Desks.{IsDeskOf, KeepsDesk};
+ghost use Rattle.ts_thread.specs.Desks.{IsDeskOf, KeepsTokens};
 ghost use Rattle.ts_serve.specs.Books.{IsSameRow};
 ghost use Rattle.ts_serve.specs.Door.{HasPlaces, KeepsDeskSome};
 ghost use Rattle.ts_serve.specs.Guests.{IsPlace};
+ghost use Rattle.ts_serve.specs.Starting.{IsNowStarted, IsStartedAt, OthersStay, WereStartedAt};
 
 use crate::booking::{Booking, book_start};
 use crate::door::PLACES;
@@ -35,8 +36,12 @@ fn start_guest<
     requires desk { IsDeskOf slots.now queue.now desk.old }
     requires place { IsPlace (tags_of slots.now) k × (k < length row.old.items) }
     ensures desk { IsDeskOf slots.now queue.now desk.new }
-    ensures keeps { KeepsDesk desk.old desk.new 1 }
+    ensures keeps { KeepsTokens desk.old desk.new 1 }
     ensures row { IsSameRow row.old.items row.new.items }
+    ensures others { OthersStay k row.old.items row.new.items }
+    ensures started { IsNowStarted k row.old.items row.new.items
+        → IsStartedAt W.fits W.keeps W.begun W.sound P.fits P.begun P.sound P.is_first
+        (tags_of slots.now) k desk.new }
 {
     let Booking::Client { started: false, .. } = row[k as usize] else {
         return Ok(());
@@ -47,7 +52,8 @@ fn start_guest<
     Ok(())
 }
 
-/// Tries once to start each guest that is booked and was not started.
+/// Tries once to start each guest that is booked and was not started. Whoever is booked as started then was
+/// started, whatever is answered.
 pub fn start_guests<
     W: Lodger + Drop,
     P: World<Question = W::Question, Reply = W::Reply> + Drop,
@@ -65,6 +71,8 @@ pub fn start_guests<
     ensures desk { IsDeskOf slots.now queue.now desk.new }
     ensures keeps { KeepsDeskSome desk.old desk.new }
     ensures row { IsSameRow row.old.items row.new.items }
+    ensures started { WereStartedAt W.fits W.keeps W.begun W.sound P.fits P.begun P.sound P.is_first
+        (tags_of slots.now) PLACES row.old.items row.new.items desk.new }
 {
     'places: for k in 0..PLACES {
         start_guest(rt, slots, queue, desk, row, k, moment)?;

@@ -25,7 +25,7 @@ pub returns-in-Closed-clause-keeps : goal.returns-in-Closed-clause-keeps
 returns-in-Closed-clause-keeps g c = record {
   most = refl;
   account = λ first was. account_closed first c.args.door.now _
-      (g.N.DoorNet.seen c.args.net.now) (g.N.DoorNet.seen c.receive.new.net) refl refl refl
+      (g.N.DoorNet.seen c.args.net.now) (g.N.DoorNet.seen c.receive.new.net) c.requires.open.0 refl refl refl
       c.in-Closed.ensures.receives was;
   books = λ telling terms misdials are. c.receive.ensures.books telling terms misdials;
 }
@@ -34,7 +34,7 @@ pub returns-in-Failed-clause-keeps : goal.returns-in-Failed-clause-keeps
 returns-in-Failed-clause-keeps g c = record {
   most = refl;
   account = λ first was. account_failed first c.args.door.now _
-      (g.N.DoorNet.seen c.args.net.now) (g.N.DoorNet.seen c.receive.new.net) refl refl refl
+      (g.N.DoorNet.seen c.args.net.now) (g.N.DoorNet.seen c.receive.new.net) c.requires.open.0 refl refl refl
       c.in-Failed.ensures.receives was;
   books = λ telling terms misdials are. c.receive.ensures.books telling terms misdials;
 }

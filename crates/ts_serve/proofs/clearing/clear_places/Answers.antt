@@ -16,6 +16,7 @@ places-init g c =
           fits,
       λ tells terms fits misdials books. books,
       record { given = refl; counts = refl },
+      λ few. few,
     )
 
 pub places-preserved : goal.places-preserved
@@ -37,4 +38,5 @@ places-preserved g c =
         given = c.clear_place.ensures.net.given ∙ before.4.given;
         counts = c.clear_place.ensures.net.counts ∙ before.4.counts;
       },
+      λ few. c.clear_place.ensures.no_more (before.5 few),
     )

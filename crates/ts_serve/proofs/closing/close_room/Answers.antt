@@ -1,5 +1,5 @@
 -- The groups of a room that is closed fit their tags, and go on to do so.
-use Rattle.std.proofs.Common.{◌≡◌, length, sym, ap, subst, ◌∙◌}
+use Rattle.std.proofs.Common.{length, sym, ap, subst, ◌∙◌}
 use Rattle.ts_lists.proofs.Fronts.{taken_table}
 use Rattle.ts_lists.proofs.Pairs.{zip_from_found}
 use Rattle.ts_slot.specs.Words.{tags_of}

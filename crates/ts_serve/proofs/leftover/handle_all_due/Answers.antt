@@ -1,6 +1,6 @@
 -- Group after group, all fit the tags that they fitted.
-use Rattle.std.proofs.Common.{◌∙◌, refl}
-use Rattle.ts_serve.proofs.Leftovers.{stay_on, stay_same}
+use Rattle.std.proofs.Common.{refl}
+use Rattle.ts_serve.proofs.Leftovers.{stay_same}
 use Rattle.ts_serve.proofs.leftover.handle_all_due.Goals as goal
 
 pub groups-init : goal.groups-init

@@ -1,5 +1,5 @@
 -- World after world has a group behind those that are there.
-use Rattle.std.proofs.Common.{◌≡◌, ◌++◌, ◌∷◌, [], All, map, sym, ap, subst, ◌∙◌}
+use Rattle.std.proofs.Common.{◌≡◌, ◌++◌, [], All, map, sym, ap, subst, ◌∙◌}
 use Rattle.std.proofs.lemmas.List.{append-nil, nil_from_length}
 use Rattle.std.proofs.lemmas.List.Elements.{All-head, All-tail}
 use Rattle.ts_group.specs.declared.either.EitherTag.TheVariants.{Other}

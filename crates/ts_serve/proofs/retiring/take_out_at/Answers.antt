@@ -2,7 +2,7 @@
 use Rattle.std.proofs.Common.{◌≡◌, ◌∙◌, get_or, sym}
 use Rattle.std.proofs.lemmas.List.{get_or_read}
 use Rattle.ts_serve.specs.declared.booking.Booking.TheVariants.{Free, Client}
-use Rattle.ts_serve.proofs.Books.{all_out}
+use Rattle.ts_serve.proofs.Books.{all_out, no_more_out}
 use Rattle.ts_serve.proofs.retiring.take_out_at.Goals as goal
 
 pub returns-then-branch-clause-all : goal.returns-then-branch-clause-all
@@ -23,3 +23,16 @@ returns-then-branch-clause-net g c =
     let place = c.requires.place.0 in
     let over = c.in_ok-retire_at.ensures.retired c.if-branch.true place.0 place.1 in
     record { given = over.handed.given; counts = over.handed.counts }
+
+pub returns-then-branch-clause-no_more : goal.returns-then-branch-clause-no_more
+returns-then-branch-clause-no_more g c =
+    let place = c.requires.place.0 in
+    let booked = c.in-Client-default-default-true in
+    let found : get_or c.args.row.now.items c.args.k Free
+    ≡ Client booked.number booked.has_origin booked.started =
+    sym (get_or_read c.args.row.now.items c.args.k c.index.result.now c.requires.place.1 c.index.ensures Free)
+    ∙ booked.is in
+    let over = c.in_ok-retire_at.ensures.retired c.if-branch.true place.0 place.1 in
+    no_more_out c.args.row.now.items c.args.k booked.number booked.has_origin booked.started
+    (g.N.DoorNet.seen c.args.net.now) (g.N.DoorNet.seen c.retire_at.new.net) c.requires.place.1 found
+    over.handed.handed over.handed.given

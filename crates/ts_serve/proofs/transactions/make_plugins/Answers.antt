@@ -1,5 +1,5 @@
 -- The plugins are those of one line more.
-use Rattle.std.proofs.Common.{◌∷◌, ◌++◌, [], take, refl, sym, ap, subst, ◌∙◌}
+use Rattle.std.proofs.Common.{◌∷◌, ◌++◌, [], take, sym, ap, subst, ◌∙◌}
 use Rattle.std.proofs.lemmas.List.{take_all, take_more}
 use Rattle.std.proofs.lemmas.Slice.Zip.{all_zipped_more}
 use Rattle.ts_serve.specs.Transactions.{ArePluginsOf, IsPluginOfLine}

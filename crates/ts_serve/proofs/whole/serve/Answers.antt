@@ -1,5 +1,5 @@
 -- A net is served in a room of the terms of the setting, and the account at the end is that of the door.
-use Rattle.std.proofs.Common.{◌∙◌, sym, subst}
+use Rattle.std.proofs.Common.{sym, subst}
 use Rattle.std.specs.Prelude.{OnOk}
 use Rattle.ts_slot.specs.Words.{tags_of}
 use Rattle.ts_serve.specs.Door.{HasPlacesOf, IsOver, LosesNobody}
@@ -78,5 +78,6 @@ returns-clause-served g c =
     lacked_served g.N.Net.tells g.W.Guest.is_done (HasPlacesOf (tags_of c.in-Ok-open_room.room.slots))
     c.args.most c.in-Ok.door c.run_event_threads-kept.result.door (g.N.Net.seen c.args.net.now)
     (g.N.Net.seen c.run_event_threads-kept.new.net) c.in-Ok.ensures c.requires.net
-    c.run_event_threads-kept.ensures.goes.at_door (g.N.Net.seen c.close_room.new.net)
-    c.run_event_threads-kept.ensures.here.1 c.close_room.ensures.net
+    c.run_event_threads-kept.ensures.goes.at_door c.close_room.new.row.items
+    (g.N.Net.seen c.close_room.new.net) c.run_event_threads-kept.ensures.here.1 c.close_room.ensures.net
+    c.close_room.ensures.no_more

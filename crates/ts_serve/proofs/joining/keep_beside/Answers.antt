@@ -3,7 +3,7 @@ use Rattle.std.proofs.Common.{subst, rules}
 use Rattle.ts_slot.specs.Words.{tags_of}
 use Rattle.ts_serve.specs.Door.{GoesOn, HasPlacesOf}
 use Rattle.ts_serve.proofs.Helpers.{goes_joined}
-use Rattle.ts_serve.proofs.joining.run_event_threads.Goals as goal
+use Rattle.ts_serve.proofs.joining.keep_beside.Goals as goal
 
 pub returns-clause-goes : goal.returns-clause-goes
 returns-clause-goes g c =
