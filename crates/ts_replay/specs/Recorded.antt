@@ -66,9 +66,9 @@ AllTakeSome txns = AllByRecursion (λ txn. TakesSome txn.leave) txns
 -- ---- the tags
 
 -- The tag is that of the transaction of this number between sides that give these pieces, with their stalls,
--- of which the client takes at least one byte before it leaves, if it does: no call of its links fails or waits
--- by its number, its slot had no other tenant, and it was started or not. It asks plugins in the groups from
--- `at` on.
+-- of which the client takes at least one byte before it leaves, if it does: no call of its links fails or
+-- waits by its number, its slot had no other tenant, and it was started or not. It asks plugins in the groups
+-- from `at` on.
 pub record IsTagOf (setup : Setup) (at number : ℕ) (txn : TxnPieces) (started : Bool)
     (tag : RecordedTag) : Type 0 where
   pub number_is : tag.number ≡ number
