@@ -1,7 +1,7 @@
 -- From what a task came to, to what a run says of it: the lemmas that the clauses of `run` want.
 use Rattle.std.specs.Prelude.{◌≢◌, ⊤, nat_le, length}
 use Rattle.std.proofs.Common.{◌≡◌, ◌⊎◌, ℕ, Bool, true, false, List, [], ◌∷◌, Option, Some, None, inl, inr}
-use Rattle.std.proofs.Common.{refl, subst, sym, arith, if◌then◌else◌}
+use Rattle.std.proofs.Common.{ap, refl, subst, sym, arith, if◌then◌else◌}
 use Rattle.std.proofs.lemmas.List.{append-nil}
 use Rattle.ts_config.specs.Setup.{ConfigLines}
 use Rattle.ts_config.specs.Value.{Reading, Good, Bad, config_of}
@@ -9,21 +9,23 @@ use Rattle.ts_config.specs.declared.setup.ConfigKind.{ConfigKind}
 use Rattle.ts_config.specs.declared.setup.TransformLine.{TransformLine}
 use Rattle.ts_config.specs.declared.setup.TransformLine.TheVariants as t
 use Rattle.ts_journal.specs.Log.{Log}
+use Rattle.ts_link.specs.Counts.{Counted}
 use Rattle.ts_link.specs.Seen.{ShelfSeen, SinkSeen}
 use Rattle.ts_proxy.specs.declared.answer.Answer.{Answer}
 use Rattle.ts_proxy.specs.declared.answer.Answer.TheVariants as a
 use Rattle.ts_proxy.specs.declared.command.GenerateTask.{GenerateTask}
-use Rattle.ts_proxy.specs.Answers.{ComesAt, IsCausedBy, IsTextOf, OnCannotRead, OnQuiet, TookAt, TookText}
-use Rattle.ts_proxy.specs.Answers.{file_name}
-use Rattle.ts_proxy.specs.Ends.{EndsAt, IsQuiet, IsStatus, IsStatusOf, Takes, TakesAt, bad_line, done}
-use Rattle.ts_proxy.specs.Ends.{out_of_memory, cannot_write, status_of, too_long, usage}
+use Rattle.ts_proxy.specs.Answers.{ComesAt, CountsCause, IsCausedBy, IsTextOf, OnCannotRead, OnNetwork, OnQuiet}
+use Rattle.ts_proxy.specs.Answers.{TookAt, TookText, file_name, is_long, is_unread, is_unwritten}
+use Rattle.ts_proxy.specs.Ends.{EndsAt, HasCause, IsQuiet, IsStatus, IsStatusOf, RoseAt, Takes, TakesAt, bad_line}
+use Rattle.ts_proxy.specs.Ends.{cannot_read, cannot_write, done, network, out_of_memory, status_of, too_long}
+use Rattle.ts_proxy.specs.Ends.{usage}
 use Rattle.ts_proxy.specs.Outcome.{Outcome, Usage, BadLine, Missing, Long, Text, Report, Summary, Serving, filled}
 use Rattle.ts_proxy.specs.Outcome.{line_filled, lines_filled, most_append, most_config, most_input, opened}
 use Rattle.ts_proxy.specs.Outcome.{outcome_of, performed, set_up, understood, with_transforms, worked}
 use Rattle.ts_proxy.specs.Performed.{IsPerformed, NamesFiles}
 use Rattle.ts_proxy.specs.Took.{TookNothing, TookSome, TookWhole}
 use Rattle.ts_proxy.specs.Words.{Command, Transform, Replay, Task, Over, Make, Serve, config_in, input_in}
-use Rattle.ts_proxy.specs.Words.{is_told}
+use Rattle.ts_proxy.specs.Words.{Serves, is_told}
 
 -- ---- which outcomes a command has
 
@@ -201,7 +203,7 @@ takes_is tells out_tells shelf shelf' out out' asked task answer js n is same p 
     (subst (λ m. Takes (is_told tells (Some task)) (outcome_of shelf (Some task)) m out out') (sym same)
     (record {
       at = λ told. takes_took (outcome_of shelf (Some task)) answer out out' (p.took told out_tell);
-      quiet = quiet-of answer (TookNothing out out') (p.quiet out_tell);
+      quiet = λ quiet. ap (λ (s : SinkSeen). s.taken) (quiet-of answer (out' ≡ out) p.quiet quiet);
     }))
 
 -- ---- the status
@@ -342,4 +344,87 @@ status_is take_memory tells out_tells shelf shelf' out out' asked task answer js
       usage_of = λ u. absurd (not-usage answer shelf shelf' out out' p.cause u);
       of_none = λ none. absurd (let wrong : Some task ≡ None = none in cc);
       at = λ told. ends-at shelf task answer (p.comes told) p.of_files;
+    }))
+
+-- a count that rose exactly with an answer rose exactly with its status
+rose-read : (answer : Answer) (old new : ℕ) → Counted (is_unread answer) old new
+    → RoseAt cannot_read (status_of answer) old new
+rose-read (a.CannotRead f) old new h = record { rose = λ is. h; stayed = λ no. absurd (no refl) }
+rose-read a.Done old new h = record { rose = λ is. absurd (omega (arith, is)); stayed = λ no. h }
+rose-read a.Usage old new h = record { rose = λ is. absurd (omega (arith, is)); stayed = λ no. h }
+rose-read (a.BadLine f) old new h = record { rose = λ is. absurd (omega (arith, is)); stayed = λ no. h }
+rose-read (a.BadRecording offset) old new h =
+    record { rose = λ is. absurd (omega (arith, is)); stayed = λ no. h }
+rose-read a.CannotWrite old new h = record { rose = λ is. absurd (omega (arith, is)); stayed = λ no. h }
+rose-read a.OutOfMemory old new h = record { rose = λ is. absurd (omega (arith, is)); stayed = λ no. h }
+rose-read (a.TooLong f) old new h = record { rose = λ is. absurd (omega (arith, is)); stayed = λ no. h }
+rose-read a.Network old new h = record { rose = λ is. absurd (omega (arith, is)); stayed = λ no. h }
+
+rose-long : (answer : Answer) (old new : ℕ) → Counted (is_long answer) old new
+    → RoseAt too_long (status_of answer) old new
+rose-long (a.TooLong f) old new h = record { rose = λ is. h; stayed = λ no. absurd (no refl) }
+rose-long a.Done old new h = record { rose = λ is. absurd (omega (arith, is)); stayed = λ no. h }
+rose-long a.Usage old new h = record { rose = λ is. absurd (omega (arith, is)); stayed = λ no. h }
+rose-long (a.BadLine f) old new h = record { rose = λ is. absurd (omega (arith, is)); stayed = λ no. h }
+rose-long (a.BadRecording offset) old new h =
+    record { rose = λ is. absurd (omega (arith, is)); stayed = λ no. h }
+rose-long (a.CannotRead f) old new h = record { rose = λ is. absurd (omega (arith, is)); stayed = λ no. h }
+rose-long a.CannotWrite old new h = record { rose = λ is. absurd (omega (arith, is)); stayed = λ no. h }
+rose-long a.OutOfMemory old new h = record { rose = λ is. absurd (omega (arith, is)); stayed = λ no. h }
+rose-long a.Network old new h = record { rose = λ is. absurd (omega (arith, is)); stayed = λ no. h }
+
+rose-written : (answer : Answer) (old new : ℕ) → Counted (is_unwritten answer) old new
+    → RoseAt cannot_write (status_of answer) old new
+rose-written a.CannotWrite old new h = record { rose = λ is. h; stayed = λ no. absurd (no refl) }
+rose-written a.Done old new h = record { rose = λ is. absurd (omega (arith, is)); stayed = λ no. h }
+rose-written a.Usage old new h = record { rose = λ is. absurd (omega (arith, is)); stayed = λ no. h }
+rose-written (a.BadLine f) old new h = record { rose = λ is. absurd (omega (arith, is)); stayed = λ no. h }
+rose-written (a.BadRecording offset) old new h =
+    record { rose = λ is. absurd (omega (arith, is)); stayed = λ no. h }
+rose-written (a.CannotRead f) old new h = record { rose = λ is. absurd (omega (arith, is)); stayed = λ no. h }
+rose-written a.OutOfMemory old new h = record { rose = λ is. absurd (omega (arith, is)); stayed = λ no. h }
+rose-written (a.TooLong f) old new h = record { rose = λ is. absurd (omega (arith, is)); stayed = λ no. h }
+rose-written a.Network old new h = record { rose = λ is. absurd (omega (arith, is)); stayed = λ no. h }
+
+-- an answer that tells of a cause is one to a task
+counts-cause : (answer : Answer) (shelf shelf' : ShelfSeen) (out out' : SinkSeen)
+    → IsCausedBy answer shelf shelf' out out' → CountsCause answer shelf shelf' out out'
+counts-cause a.Done shelf shelf' out out' h = h
+counts-cause a.Usage shelf shelf' out out' h = absurd h
+counts-cause (a.BadLine f) shelf shelf' out out' h = h
+counts-cause (a.BadRecording offset) shelf shelf' out out' h = h
+counts-cause (a.CannotRead f) shelf shelf' out out' h = h
+counts-cause a.CannotWrite shelf shelf' out out' h = h
+counts-cause a.OutOfMemory shelf shelf' out out' h = h
+counts-cause (a.TooLong f) shelf shelf' out out' h = h
+counts-cause a.Network shelf shelf' out out' h = h
+
+-- only with the status of a net's fault an answer tells of one
+net-of : (answer : Answer) (P : Type 0) → OnNetwork answer P → status_of answer ≡ network → P
+net-of a.Network P h is = h
+net-of a.Done P h is = absurd (omega (arith, is))
+net-of a.Usage P h is = absurd (omega (arith, is))
+net-of (a.BadLine f) P h is = absurd (omega (arith, is))
+net-of (a.BadRecording offset) P h is = absurd (omega (arith, is))
+net-of (a.CannotRead f) P h is = absurd (omega (arith, is))
+net-of a.CannotWrite P h is = absurd (omega (arith, is))
+net-of a.OutOfMemory P h is = absurd (omega (arith, is))
+net-of (a.TooLong f) P h is = absurd (omega (arith, is))
+
+-- the cause of the status of what a task came to
+pub cause_is : (tells out_tells : Bool) (shelf shelf' : ShelfSeen) (out out' : SinkSeen)
+    (asked : Option Task) (task : Task) (answer : Answer) (js : List Log) (n : ℕ) → asked ≡ Some task
+    → n ≡ status_of answer → IsPerformed task tells out_tells shelf shelf' out out' answer js
+    → HasCause asked n shelf shelf' out out'
+cause_is tells out_tells shelf shelf' out out' asked task answer js n is same p =
+    let counts = counts-cause answer shelf shelf' out out' p.cause in
+    subst (λ t. HasCause t n shelf shelf' out out') (sym is)
+    (subst (λ m. HasCause (Some task) m shelf shelf' out out') (sym same) (record {
+      read = rose-read answer shelf.faults shelf'.faults counts.reads.faults;
+      long = rose-long answer shelf.longs shelf'.longs counts.reads.longs;
+      write = rose-written answer out.faults out'.faults counts.writes;
+      net = net-of answer (Serves (Some task)) p.of_net;
+      unread = p.unread;
+      unwritten = p.unwritten;
+      quiet = quiet-of answer (out' ≡ out) p.quiet;
     }))

@@ -12,13 +12,14 @@ use Rattle.ts_proxy.specs.declared.answer.Answer.TheVariants as a
 use Rattle.ts_proxy.specs.declared.answer.NamedFile.{NamedFile}
 use Rattle.ts_proxy.specs.declared.command.GenerateTask.{GenerateTask}
 use Rattle.ts_proxy.specs.Answers.{ComesAt, HasJob, HasOutput, IsCausedBy, IsOfReading, IsOfRunning, IsOfWork}
+use Rattle.ts_proxy.specs.Answers.{IsUnfailed}
 use Rattle.ts_proxy.specs.Answers.{IsReadBy, IsTextOf, OnCannotRead, OnNetwork, OnQuiet, TookAt, TookText}
 use Rattle.ts_proxy.specs.Outcome.{Outcome, Usage, BadLine, Missing, Long, Text, Report, Summary, Serving}
 use Rattle.ts_proxy.specs.Outcome.{performed, worked}
 use Rattle.ts_proxy.specs.Performed.{AreJournalsAt, AreJournalsOf, AreOfThreads, IsCarriedOut, IsPerformed}
 use Rattle.ts_proxy.specs.Performed.{IsReplayIn, IsRunTo, LeavesJournals, LeavesJournalsAt}
 use Rattle.ts_proxy.specs.Summary.{fixed_lines, summary_of, summary_text, txns_of}
-use Rattle.ts_proxy.specs.Took.{TookAll, TookFront, TookNothing, TookWhole}
+use Rattle.ts_proxy.specs.Took.{TookAll, TookFront, TookWhole}
 use Rattle.ts_proxy.specs.Words.{Command, Over, Make}
 use Rattle.ts_record.specs.Grammar.{IsTxn, MayLeave, TxnPieces}
 use Rattle.ts_record.specs.Report.{report_text}
@@ -40,18 +41,22 @@ work-names a.OutOfMemory out out' P h = tt
 work-names (a.TooLong f) out out' P h = tt
 work-names a.Network out out' P h = tt
 
--- and has its cause in out
-work-caused : (answer : Answer) (shelf shelf' : ShelfSeen) (out out' : SinkSeen) → IsOfWork answer out out'
-    → IsCausedBy answer shelf shelf' out out'
-work-caused a.Done shelf shelf' out out' h = tt
-work-caused a.Usage shelf shelf' out out' h = h
-work-caused (a.BadLine f) shelf shelf' out out' h = tt
-work-caused (a.BadRecording offset) shelf shelf' out out' h = tt
-work-caused (a.CannotRead f) shelf shelf' out out' h = absurd h
-work-caused a.CannotWrite shelf shelf' out out' h = h
-work-caused a.OutOfMemory shelf shelf' out out' h = tt
-work-caused (a.TooLong f) shelf shelf' out out' h = absurd h
-work-caused a.Network shelf shelf' out out' h = absurd h
+-- and has its cause in out, where no read was refused
+work-caused : (answer : Answer) (shelf shelf' : ShelfSeen) (out out' : SinkSeen) → IsUnfailed shelf shelf'
+    → IsOfWork answer out out' → IsCausedBy answer shelf shelf' out out'
+work-caused a.Done shelf shelf' out out' read h =
+    record { reads = record { faults = read.faults; longs = read.longs }; writes = h }
+work-caused a.Usage shelf shelf' out out' read h = h
+work-caused (a.BadLine f) shelf shelf' out out' read h = absurd h
+work-caused (a.BadRecording offset) shelf shelf' out out' read h =
+    record { reads = record { faults = read.faults; longs = read.longs }; writes = h }
+work-caused (a.CannotRead f) shelf shelf' out out' read h = absurd h
+work-caused a.CannotWrite shelf shelf' out out' read h =
+    record { reads = record { faults = read.faults; longs = read.longs }; writes = h }
+work-caused a.OutOfMemory shelf shelf' out out' read h =
+    record { reads = record { faults = read.faults; longs = read.longs }; writes = h }
+work-caused (a.TooLong f) shelf shelf' out out' read h = absurd h
+work-caused a.Network shelf shelf' out out' read h = absurd h
 
 -- nor does a net
 work-nets : (answer : Answer) (out out' : SinkSeen) (P : Type 0) → IsOfWork answer out out'
@@ -85,17 +90,19 @@ pub performed-worked : (command : Command) (config input : List ℕ) (tells out_
     (shelf shelf' : ShelfSeen) (out out' : SinkSeen) (answer : Answer) (js : List Log)
     (lines : ConfigLines) (bytes : List ℕ)
     → (tells ≡ true → (any : Command) → performed any shelf.file config input ≡ worked any lines bytes)
+    → IsUnfailed shelf shelf'
     → IsCarriedOut (AreJournalsOf (Over command config input)) (worked command lines bytes) out_tells out out'
     answer js
     → IsPerformed (Over command config input) tells out_tells shelf shelf' out out' answer js
-performed-worked command config input tells out_tells shelf shelf' out out' answer js lines bytes told work =
+performed-worked command config input tells out_tells shelf shelf' out out' answer js lines bytes told read
+    work =
     record {
       comes = λ tell. subst (ComesAt config input answer) (sym (told tell command)) (work.comes config input);
       named = λ tell. work-names answer out out' (IsReadBy shelf config) work.cause;
       of_files = work-names answer out out' (λ f. ⊤) work.cause;
       took = λ tell out_tell. subst (TookAt answer out out') (sym (told tell command)) (work.took out_tell);
       quiet = work.quiet;
-      cause = work-caused answer shelf shelf' out out' work.cause;
+      cause = work-caused answer shelf shelf' out out' read work.cause;
       of_net = work-nets answer out out' ⊥ work.cause;
       unread = tt;
       unwritten = tt;
@@ -105,14 +112,14 @@ performed-worked command config input tells out_tells shelf shelf' out out' answ
 
 reading-caused : (answer : Answer) (shelf shelf' : ShelfSeen) (out : SinkSeen)
     → IsOfReading answer shelf shelf' → IsCausedBy answer shelf shelf' out out
-reading-caused a.Done shelf shelf' out h = tt
+reading-caused a.Done shelf shelf' out h = absurd h
 reading-caused a.Usage shelf shelf' out h = h
-reading-caused (a.BadLine f) shelf shelf' out h = tt
-reading-caused (a.BadRecording offset) shelf shelf' out h = tt
-reading-caused (a.CannotRead f) shelf shelf' out h = h
+reading-caused (a.BadLine f) shelf shelf' out h = record { reads = h; writes = refl }
+reading-caused (a.BadRecording offset) shelf shelf' out h = absurd h
+reading-caused (a.CannotRead f) shelf shelf' out h = record { reads = h; writes = refl }
 reading-caused a.CannotWrite shelf shelf' out h = absurd h
-reading-caused a.OutOfMemory shelf shelf' out h = tt
-reading-caused (a.TooLong f) shelf shelf' out h = h
+reading-caused a.OutOfMemory shelf shelf' out h = record { reads = h; writes = refl }
+reading-caused (a.TooLong f) shelf shelf' out h = record { reads = h; writes = refl }
 reading-caused a.Network shelf shelf' out h = absurd h
 
 reading-took : (answer : Answer) (shelf shelf' : ShelfSeen) (out : SinkSeen) (o : Outcome)
@@ -189,7 +196,7 @@ performed-unread command config input tells out_tells shelf shelf' out answer js
       named = named;
       of_files = names-any answer;
       took = λ tell out_tell. reading-took answer shelf shelf' out o cause;
-      quiet = λ out_tell. quiet-by answer (TookNothing out out) refl;
+      quiet = quiet-by answer (out ≡ out) refl;
       cause = reading-caused answer shelf shelf' out cause;
       of_net = reading-nets answer shelf shelf' ⊥ cause;
       unread = tt;
@@ -214,7 +221,7 @@ performed-made numbers tells out_tells shelf out out' answer js work = record {
   of_files = work-names answer out out' (λ f. ⊥) work.cause;
   took = λ tell out_tell. work.took out_tell;
   quiet = work.quiet;
-  cause = work-caused answer shelf shelf out out' work.cause;
+  cause = work-caused answer shelf shelf out out' (record { faults = refl; longs = refl }) work.cause;
   of_net = work-nets answer out out' ⊥ work.cause;
   unread = refl;
   unwritten = tt;
@@ -250,12 +257,13 @@ output-job (Serving lines) h = tt
 -- all of the text was written
 pub work-written : (AreOurs : List Log → Type 0) (o : Outcome) (text : List ℕ) (out_tells : Bool)
     (out out' : SinkSeen) (js : List Log) → HasOutput o → IsTextOf o text → AreOurs js → AreJournalsAt o js
-    → (out_tells ≡ true → TookAll out out' text) → IsCarriedOut AreOurs o out_tells out out' a.Done js
-work-written AreOurs o text out_tells out out' js output is ours each told = record {
+    → (out_tells ≡ true → TookAll out out' text) → out'.faults ≡ out.faults
+    → IsCarriedOut AreOurs o out_tells out out' a.Done js
+work-written AreOurs o text out_tells out out' js output is ours each told same = record {
   comes = λ config name. output-job o output;
   took = λ tell. text-took o out out' output (text, is, told tell);
-  quiet = λ tell. tt;
-  cause = tt;
+  quiet = tt;
+  cause = same;
   journals = ours;
   each = each;
 }
@@ -268,7 +276,7 @@ pub work-unwritten : (AreOurs : List Log → Type 0) (o : Outcome) (text : List 
 work-unwritten AreOurs o text out_tells out out' js output is told rose none = record {
   comes = λ config name. output;
   took = λ tell. inr (text, is, told tell);
-  quiet = λ tell. tt;
+  quiet = tt;
   cause = rose;
   journals = none;
   each = tt;
@@ -277,12 +285,12 @@ work-unwritten AreOurs o text out_tells out out' js output is told rose none = r
 -- or memory lacked while it was written
 pub work-stopped : (AreOurs : List Log → Type 0) (o : Outcome) (text : List ℕ) (out_tells : Bool)
     (out out' : SinkSeen) (js : List Log) → IsTextOf o text → (out_tells ≡ true → TookFront out out' text)
-    → js ≡ [] → IsCarriedOut AreOurs o out_tells out out' a.OutOfMemory js
-work-stopped AreOurs o text out_tells out out' js is told none = record {
+    → out'.faults ≡ out.faults → js ≡ [] → IsCarriedOut AreOurs o out_tells out out' a.OutOfMemory js
+work-stopped AreOurs o text out_tells out out' js is told same none = record {
   comes = λ config name. tt;
   took = λ tell. inr (text, is, told tell);
-  quiet = λ tell. tt;
-  cause = tt;
+  quiet = tt;
+  cause = same;
   journals = none;
   each = tt;
 }
@@ -293,8 +301,8 @@ pub work-lacking : (AreOurs : List Log → Type 0) (o : Outcome) (out_tells : Bo
 work-lacking AreOurs o out_tells out js none = record {
   comes = λ config name. tt;
   took = λ tell. inl refl;
-  quiet = λ tell. tt;
-  cause = tt;
+  quiet = tt;
+  cause = refl;
   journals = none;
   each = tt;
 }
@@ -311,8 +319,8 @@ work-unrun lines bytes out_tells out (a.BadRecording offset) js h none =
     record {
       comes = λ config name. h;
       took = λ told. refl;
-      quiet = λ told. refl;
-      cause = tt;
+      quiet = refl;
+      cause = refl;
       journals = none;
       each = tt;
     }

@@ -18,7 +18,7 @@ use Rattle.ts_txn.specs.declared.retired.Retired.{Retired}
 use Rattle.ts_upstream.specs.declared.upstream.Upstream as upstream
 use Rattle.ts_proxy.specs.declared.answer.Answer.{Answer}
 use Rattle.ts_proxy.specs.declared.answer.Answer.TheVariants as a
-use Rattle.ts_proxy.specs.Answers.{ComesAt, IsOfReading, IsServing, TookAt}
+use Rattle.ts_proxy.specs.Answers.{ComesAt, IsOfReading, IsServing, IsUnfailed, TookAt}
 use Rattle.ts_proxy.specs.Ends.{IsFileStatus, done, network, out_of_memory, status_of}
 use Rattle.ts_proxy.specs.Outcome.{Outcome, Serving, outcome_of, set_up}
 use Rattle.ts_proxy.specs.Performed.{IsPerformed, LeavesJournalsAt}
@@ -47,9 +47,9 @@ pub performed-served : {C O : Type 0} (words : ServeWords) (tells out_tells : Bo
     (out : SinkSeen) (answer : Answer) (js : List Log) (lines : ConfigLines) (most : ℕ)
     (old new : NetSeen C O)
     → (tells ≡ true → set_up shelf.file words.config (λ ls. Serving ls) ≡ Serving lines)
-    → EndsNet answer most old new → js ≡ []
+    → IsUnfailed shelf shelf' → EndsNet answer most old new → js ≡ []
     → IsPerformed (Serve words) tells out_tells shelf shelf' out out answer js
-performed-served words tells out_tells shelf shelf' out answer js lines most old new told ended none =
+performed-served words tells out_tells shelf shelf' out answer js lines most old new told read ended none =
     let at : (P : Outcome → Type 0) → P (Serving lines) → tells ≡ true
     → P (outcome_of shelf (Some (Serve words))) =
     λ P p tell. subst P (sym (told tell)) p in
@@ -59,8 +59,8 @@ performed-served words tells out_tells shelf shelf' out answer js lines most old
       named = λ tell. tt;
       of_files = tt;
       took = λ tell out_tell. at (TookAt a.Done out out) refl tell;
-      quiet = λ out_tell. tt;
-      cause = tt;
+      quiet = tt;
+      cause = record { reads = record { faults = read.faults; longs = read.longs }; writes = refl };
       of_net = tt;
       unread = tt;
       unwritten = refl;
@@ -72,8 +72,8 @@ performed-served words tells out_tells shelf shelf' out answer js lines most old
       named = λ tell. tt;
       of_files = tt;
       took = λ tell out_tell. refl;
-      quiet = λ out_tell. refl;
-      cause = tt;
+      quiet = refl;
+      cause = record { reads = record { faults = read.faults; longs = read.longs }; writes = refl };
       of_net = tt;
       unread = tt;
       unwritten = refl;
@@ -85,8 +85,8 @@ performed-served words tells out_tells shelf shelf' out answer js lines most old
       named = λ tell. tt;
       of_files = tt;
       took = λ tell out_tell. inl refl;
-      quiet = λ out_tell. tt;
-      cause = tt;
+      quiet = tt;
+      cause = record { reads = record { faults = read.faults; longs = read.longs }; writes = refl };
       of_net = tt;
       unread = tt;
       unwritten = refl;
@@ -146,6 +146,8 @@ module _ {C O : Type 0} (client : link.Ghosts C) (origin : link.Ghosts O) (both 
               dialed = all.dialed;
             };
         few = left.few;
+        no_more = left.no_more;
+        shut = left.shut;
         ended = ends (λ x. status_of x ≡ done → EndsNet a.Done words.connections old new) (λ h is. h)
             (λ h is. absurd (omega (arith, is))) (λ is. absurd (omega (arith, is)));
         failed = ends (λ x. status_of x ≡ network → EndsNet a.Network words.connections old new)
@@ -154,7 +156,7 @@ module _ {C O : Type 0} (client : link.Ghosts C) (origin : link.Ghosts O) (both 
             (λ h is. absurd (failed is)) (λ is. absurd (lacking is));
         completes = λ tell serving read net.
             ends (λ x. (status_of x ≡ done) ⊎ (status_of x ≡ out_of_memory)) (λ h. inl refl)
-            (λ h. absurd (net h.1)) (inr refl);
+            (λ h. absurd (net h.2)) (inr refl);
       }
     where
       whole : IsFileStatus (status_of a.Done) → ⊥
@@ -182,6 +184,8 @@ module _ {C O : Type 0} (client : link.Ghosts C) (origin : link.Ghosts O) (both 
   net-unserved words tells net_tells shelf shelf' answer old fresh told cause = record {
     retired = λ net_tell. none-retired _ old old fresh refl;
     few = subst (λ n. n ≤ words.connections) (sym fresh.given) (omega arith);
+    no_more = let given = fresh.given in let handed = fresh.handed in omega arith;
+    shut = inl refl;
     ended = λ is. absurd (not-done answer cause is);
     failed = λ is. absurd (not-net answer cause is);
     untouched = λ is. refl;
@@ -208,7 +212,7 @@ module _ {C O : Type 0} (client : link.Ghosts C) (origin : link.Ghosts O) (both 
           → IsServing (outcome_of shelf (Some (Serve words))) → (Rose shelf.faults shelf'.faults → ⊥)
           → (status_of x ≡ done) ⊎ (status_of x ≡ out_of_memory)
       complete (a.BadLine f) h comes serving read = absurd (subst IsServing comes serving)
-      complete (a.CannotRead f) h comes serving read = absurd (read h)
+      complete (a.CannotRead f) h comes serving read = absurd (read h.faults)
       complete a.OutOfMemory h comes serving read = inr refl
       complete (a.TooLong f) h comes serving read = absurd (subst IsServing comes serving)
       complete x h comes serving read = absurd h

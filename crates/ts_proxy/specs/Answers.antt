@@ -1,6 +1,7 @@
 -- When each answer of a command comes, and what it leaves.
 use Rattle.std.specs.Prelude.{◌≡◌, ℕ, ◌≤◌, ◌++◌, List, [], ◌∷◌, length, ⊤, Option, IsSomeAnd, Result, Ok, Err}
-use Rattle.ts_link.specs.Counts.{Rose}
+use Rattle.std.specs.Prelude.{Bool, true, false}
+use Rattle.ts_link.specs.Counts.{Counted, Rose}
 use Rattle.ts_link.specs.Seen.{ShelfSeen, SinkSeen}
 use Rattle.ts_link.specs.declared.shelf.ShelfFault.{ShelfFault}
 use Rattle.ts_link.specs.declared.shelf.ShelfFault.TheVariants as fault
@@ -110,12 +111,31 @@ abbrev pub OnCannotRead : Answer → (NamedFile → Type 0) → Type 0
 OnCannotRead (a.CannotRead f) P = P f
 OnCannotRead _ P = ⊤
 
+-- which answer is that of a read that failed, of a file that is too long, and of a write that failed
+abbrev pub is_unread : Answer → Bool
+is_unread (a.CannotRead f) = true
+is_unread _ = false
+
+abbrev pub is_long : Answer → Bool
+is_long (a.TooLong f) = true
+is_long _ = false
+
+abbrev pub is_unwritten : Answer → Bool
+is_unwritten a.CannotWrite = true
+is_unwritten _ = false
+
+-- what a shelf counted with an answer: a read that failed exactly with that answer, and a file that is too
+-- long exactly with that one
+pub record CountsReads (answer : Answer) (old new : ShelfSeen) : Type 0 where
+  pub faults : Counted (is_unread answer) old.faults new.faults
+  pub longs : Counted (is_long answer) old.longs new.longs
+
 -- an answer of the part of the work that reads, with what a shelf showed before and after it
 abbrev pub IsOfReading : Answer → ShelfSeen → ShelfSeen → Type 0
-IsOfReading (a.BadLine b) old new = ⊤
-IsOfReading (a.CannotRead f) old new = Rose old.faults new.faults
-IsOfReading a.OutOfMemory old new = ⊤
-IsOfReading (a.TooLong f) old new = Rose old.longs new.longs
+IsOfReading (a.BadLine b) old new = CountsReads (a.BadLine b) old new
+IsOfReading (a.CannotRead f) old new = CountsReads (a.CannotRead f) old new
+IsOfReading a.OutOfMemory old new = CountsReads a.OutOfMemory old new
+IsOfReading (a.TooLong f) old new = CountsReads (a.TooLong f) old new
 IsOfReading _ old new = ⊥
 
 -- no count of a shelf rose
@@ -125,14 +145,14 @@ pub record IsUnfailed (old new : ShelfSeen) : Type 0 where
 
 -- an answer of the part that writes, with what the sink showed before and after it
 abbrev pub IsOfWriting : Answer → SinkSeen → SinkSeen → Type 0
-IsOfWriting a.Done old new = ⊤
+IsOfWriting a.Done old new = new.faults ≡ old.faults
 IsOfWriting a.CannotWrite old new = Rose old.faults new.faults
-IsOfWriting a.OutOfMemory old new = ⊤
+IsOfWriting a.OutOfMemory old new = new.faults ≡ old.faults
 IsOfWriting _ old new = ⊥
 
 -- an answer of the part that comes after reading: it writes, or finds that the input is no recording
 abbrev pub IsOfWork : Answer → SinkSeen → SinkSeen → Type 0
-IsOfWork (a.BadRecording offset) old new = ⊤
+IsOfWork (a.BadRecording offset) old new = new.faults ≡ old.faults
 IsOfWork answer old new = IsOfWriting answer old new
 
 -- an answer where transactions were not run: the bytes are no recording, or memory lacked
@@ -141,14 +161,16 @@ IsOfRunning bytes (a.BadRecording offset) = IsRefusedAt bytes offset
 IsOfRunning bytes a.OutOfMemory = ⊤
 IsOfRunning bytes _ = ⊥
 
--- the count that shows the cause of an answer: of the shelf's faults, of its files that were too long, or of
--- the sink's faults; that of a net's fault is one of the net
+-- what a shelf and a sink counted with an answer: each of the shelf's faults, its files that are too long and
+-- the sink's faults exactly with the answer that tells of it
+pub record CountsCause (answer : Answer) (shelf shelf' : ShelfSeen) (out out' : SinkSeen) : Type 0 where
+  pub reads : CountsReads answer shelf shelf'
+  pub writes : Counted (is_unwritten answer) out.faults out'.faults
+
+-- the counts that show the cause of an answer to a task; that of a net's fault is one of the net
 abbrev pub IsCausedBy : Answer → ShelfSeen → ShelfSeen → SinkSeen → SinkSeen → Type 0
 IsCausedBy a.Usage shelf shelf' out out' = ⊥
-IsCausedBy (a.CannotRead f) shelf shelf' out out' = Rose shelf.faults shelf'.faults
-IsCausedBy a.CannotWrite shelf shelf' out out' = Rose out.faults out'.faults
-IsCausedBy (a.TooLong f) shelf shelf' out out' = Rose shelf.longs shelf'.longs
-IsCausedBy _ shelf shelf' out out' = ⊤
+IsCausedBy answer shelf shelf' out out' = CountsCause answer shelf shelf' out out'
 
 -- a sink took all of the text of an outcome, and nothing where a net was served
 abbrev pub TookText : Outcome → SinkSeen → SinkSeen → Type 0

@@ -92,17 +92,24 @@ pub record IsStatusOf (take_memory tells : Bool) (shelf : ShelfSeen) (task : Opt
   pub of_none : task ≡ None → (n ≡ usage) ⊎ ((take_memory ≡ true) × (n ≡ out_of_memory))
   pub at : is_told tells task ≡ true → EndsAt (outcome_of shelf task) n
 
--- A failure is one of the shelf or of the sink that was handed in: a status of a failure comes only where its
--- count rose, and that of a net's only where one is served. Where the task names no file, what the shelf
--- shows stays, and where it serves a net, what the sink shows.
+-- A count rose exactly with a status.
+pub record RoseAt (status n old new : ℕ) : Type 0 where
+  pub rose : n ≡ status → Rose old new
+  pub stayed : n ≢ status → new ≡ old
+
+-- A failure is one of the shelf or of the sink that was handed in: the status of a failure comes only where
+-- its count rose, with each other status that count is as it was, and that of a net's comes only where one is
+-- served. Where the task names no file, what the shelf shows stays; where it serves a net, and with a status
+-- with which nothing is written, what the sink shows.
 pub record HasCause (task : Option Task) (n : ℕ) (shelf shelf' : ShelfSeen) (out out' : SinkSeen)
     : Type 0 where
-  pub read : n ≡ cannot_read → Rose shelf.faults shelf'.faults
-  pub long : n ≡ too_long → Rose shelf.longs shelf'.longs
-  pub write : n ≡ cannot_write → Rose out.faults out'.faults
+  pub read : RoseAt cannot_read n shelf.faults shelf'.faults
+  pub long : RoseAt too_long n shelf.longs shelf'.longs
+  pub write : RoseAt cannot_write n out.faults out'.faults
   pub net : n ≡ network → Serves task
   pub unread : LeavesShelf task shelf shelf'
   pub unwritten : LeavesOut task out out'
+  pub quiet : IsQuiet n → out' ≡ out
 
 -- neither a read nor a write failed, so the job is done, unless memory lacked
 abbrev pub Completes : ℕ → ShelfSeen → ShelfSeen → SinkSeen → SinkSeen → Type 0

@@ -8,7 +8,6 @@ use Rattle.ts_proxy.specs.Answers.{OnNetwork, OnQuiet, TookAt}
 use Rattle.ts_proxy.specs.Journals.{IsOfDriver}
 use Rattle.ts_proxy.specs.Outcome.{Outcome, Report, Summary, outcome_of}
 use Rattle.ts_proxy.specs.Summary.{fixed_lines, txns_of}
-use Rattle.ts_proxy.specs.Took.{TookNothing}
 use Rattle.ts_proxy.specs.Words.{Transform, Replay, Task, Over, Make, Serve, Serves, config_in, input_in}
 use Rattle.ts_proxy.specs.Words.{is_told}
 use Rattle.ts_proxy.specs.declared.answer.Answer.{Answer}
@@ -87,13 +86,13 @@ pub record IsRunTo (o : Outcome) (text : List ℕ) (js : List Log) : Type 0 wher
   pub each : AreJournalsAt o js
 
 -- What the part of a command that comes after reading answers and leaves, whose outcome is this, and whose
--- journals are of this kind: it comes at the outcome, and out took what it is to take. A failed write was one
--- of out.
+-- journals are of this kind: it comes at the outcome, and out took what it is to take; with an answer that
+-- comes before anything is written, out is as it was. A failed write was one of out.
 pub record IsCarriedOut (AreOurs : List Log → Type 0) (o : Outcome) (out_tells : Bool)
     (out out' : SinkSeen) (answer : Answer) (js : List Log) : Type 0 where
   pub comes : (config name : List ℕ) → ComesAt config name answer o
   pub took : out_tells ≡ true → TookAt answer out out' o
-  pub quiet : out_tells ≡ true → OnQuiet answer (TookNothing out out')
+  pub quiet : OnQuiet answer (out' ≡ out)
   pub cause : IsOfWork answer out out'
   pub journals : LeavesJournals AreOurs answer js
   pub each : LeavesJournalsAt answer o js
@@ -107,7 +106,7 @@ pub record IsPerformed (task : Task) (tells out_tells : Bool) (shelf shelf' : Sh
   pub of_files : OnCannotRead answer (λ f. NamesFiles task)
   pub took : is_told tells (Some task) ≡ true → out_tells ≡ true
       → TookAt answer out out' (outcome_of shelf (Some task))
-  pub quiet : out_tells ≡ true → OnQuiet answer (TookNothing out out')
+  pub quiet : OnQuiet answer (out' ≡ out)
   pub cause : IsCausedBy answer shelf shelf' out out'
   pub of_net : OnNetwork answer (Serves (Some task))
   pub unread : LeavesShelf (Some task) shelf shelf'

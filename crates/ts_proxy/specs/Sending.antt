@@ -45,8 +45,8 @@ pub record IsSent (end : SendEnd) (tells : Bool) (old new : SinkSeen) (text : Li
   pub told : tells ≡ true → WroteAll end old new text
   pub faults : Counted (is_failed end) old.faults new.faults
 
--- of lines that waited some may have been taken, and the others wait; or the end came, and a front of them was
--- taken
+-- of lines that waited some may have been taken, and the others wait; or the end came, and a front of them
+-- was taken
 abbrev pub WroteSome : SendEnd → SinkSeen → SinkSeen → List ℕ → List ℕ → Type 0
 WroteSome Done old new lines waiting = TookBut old new lines waiting
 WroteSome _ old new lines waiting = TookFront old new lines

@@ -5,7 +5,7 @@ use Rattle.ts_config.specs.declared.setup.Setup.{Setup}
 use Rattle.ts_link.specs.Counts.{Rose}
 use Rattle.ts_link.specs.Seen.{ShelfSeen}
 use Rattle.ts_link.specs.declared.link.Link as link
-use Rattle.ts_serve.specs.Served.{AreRetired, HandsAllOver}
+use Rattle.ts_serve.specs.Served.{AreRetired, HandsAllOver, HasNotFailed, IsNotClosed}
 use Rattle.ts_serve.specs.Transactions.{IsTxnDone}
 use Rattle.ts_serve.specs.declared.door.TheConstants.{PLACES}
 use Rattle.ts_stock.specs.StockTransform.{stock_transform}
@@ -19,6 +19,24 @@ use Rattle.ts_proxy.specs.Ends.{IsFileStatus, done, network, out_of_memory}
 use Rattle.ts_proxy.specs.Outcome.{Outcome, Serving, outcome_of}
 use Rattle.ts_proxy.specs.Words.{Serve, Task}
 use Rattle.ts_words.specs.Serve.{ServeWords}
+
+-- what an answer of the part that serves says of the net
+abbrev pub EndsNet : {C O : Type 0} → Answer → ℕ → NetSeen C O → NetSeen C O → Type 0
+EndsNet a.Done most old new =
+    HandsAllOver new × HasNotFailed old new × ((new.given ≡ most) ⊎ Rose old.counts.ends new.counts.ends)
+EndsNet a.Network most old new =
+    HandsAllOver new × IsNotClosed old new × Rose old.counts.faults new.counts.faults
+EndsNet a.OutOfMemory most old new = ⊤
+EndsNet _ most old new = ⊥
+
+-- What the part that serves leaves of a net, whatever its answer: no more clients came than were to, no more
+-- were handed over than came, and it was asked for nobody more once it was closed or failed; and why serving
+-- it ended.
+pub record IsNetLeft {C O : Type 0} (answer : Answer) (most : ℕ) (old new : NetSeen C O) : Type 0 where
+  pub few : new.given ≤ most
+  pub no_more : new.handed ≤ new.given
+  pub shut : HasNotFailed old new ⊎ IsNotClosed old new
+  pub ended : EndsNet answer most old new
 
 module _ {C O : Type 0} (client : link.Ghosts C) (origin : link.Ghosts O) (both : upstream.Ghosts O C) where
   -- What is left of a transaction that has ended under a setup; where the files are told, that is the one
@@ -36,11 +54,15 @@ module _ {C O : Type 0} (client : link.Ghosts C) (origin : link.Ghosts O) (both 
         → AreRetired (IsDoneAt tells (outcome_of shelf (Some (Serve words)))) old new
     -- it gave no more than were asked for
     pub few : new.given ≤ words.connections
-    -- the job was done: it gave as many as that, or is closed, and what is left of each was handed over
-    pub ended : n ≡ done
-        → HandsAllOver new × ((new.given ≡ words.connections) ⊎ Rose old.counts.ends new.counts.ends)
-    -- it failed, and what is left of each client that it gave was handed over
-    pub failed : n ≡ network → HandsAllOver new × Rose old.counts.faults new.counts.faults
+    -- and was handed no more than it gave
+    pub no_more : new.handed ≤ new.given
+    -- once it is closed or failed, it is asked for nobody more
+    pub shut : HasNotFailed old new ⊎ IsNotClosed old new
+    -- the job was done: it did not fail, it gave as many as that, or is closed, and what is left of each was
+    -- handed over
+    pub ended : n ≡ done → EndsNet a.Done words.connections old new
+    -- it failed, and is not closed, and what is left of each client that it gave was handed over
+    pub failed : n ≡ network → EndsNet a.Network words.connections old new
     -- where its files were not read, or not understood, the net was not used
     pub untouched : IsFileStatus n → new ≡ old
     -- where neither the shelf nor the net failed, the job was done, unless memory lacked
@@ -54,16 +76,3 @@ module _ {C O : Type 0} (client : link.Ghosts C) (origin : link.Ghosts O) (both 
   LeavesNet tells net_tells shelf shelf' (Some (Serve words)) n old new =
       IsServedNet tells net_tells shelf shelf' words n old new
   LeavesNet tells net_tells shelf shelf' _ n old new = new ≡ old
-
--- what an answer of the part that serves says of the net
-abbrev pub EndsNet : {C O : Type 0} → Answer → ℕ → NetSeen C O → NetSeen C O → Type 0
-EndsNet a.Done most old new =
-    HandsAllOver new × ((new.given ≡ most) ⊎ Rose old.counts.ends new.counts.ends)
-EndsNet a.Network most old new = HandsAllOver new × Rose old.counts.faults new.counts.faults
-EndsNet a.OutOfMemory most old new = ⊤
-EndsNet _ most old new = ⊥
-
--- what the part that serves leaves of a net: no more clients came than were to, and it says why it ended
-pub record IsNetLeft {C O : Type 0} (answer : Answer) (most : ℕ) (old new : NetSeen C O) : Type 0 where
-  pub few : new.given ≤ most
-  pub ended : EndsNet answer most old new

@@ -173,6 +173,7 @@ pub fn read_files<S: Shelf>(
     ensures named { S.tells ≡ true →
         IfErr result (λ a. OnCannotRead a (IsReadBy (S.seen shelf.old) config.now)) }
     ensures lines { IfOk result (λ files. HasPlainLines files.setup) }
+    ensures same { OnOk result (IsUnfailed (S.seen shelf.old) (S.seen shelf.new)) }
     ensures cause { IfErr result (λ a. IsOfReading a (S.seen shelf.old) (S.seen shelf.new)) }
 {
     let setup = match set_up(alloc, shelf, config) {

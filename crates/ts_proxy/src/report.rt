@@ -37,9 +37,9 @@ fn send_block<K: Sink>(
 }
 
 /// Writes the report on the transactions of a recording of this version that came to these blocks, in their
-/// order. Of its text there are at no
-/// time more than the lines on one block and 65,536 bytes in front of them. A block is let go once its lines
-/// are made. Where memory lacks for those of a later one, a front of the report may have been written.
+/// order. Of its text there are at no time more than the lines on one block and 65,536 bytes in front of them.
+/// A block is let go once its lines are made. Where memory lacks for those of a later one, a front of the
+/// report may have been written.
 pub fn write_report<K: Sink>(
     alloc: Global,
     version: u8,

@@ -23,8 +23,8 @@ use ts_record::RecordedTxn;
 use ts_replay::{ReplayFault, Replayed};
 
 /// Runs transactions under the lines of a configuration on so many event threads, which pass the gate. A
-/// client that leaves takes at least one byte before. Where a group had all the turns that it gets, it answers
-/// as where memory lacks.
+/// client that leaves takes at least one byte before. Where a group had all the turns that it gets, it
+/// answers as where memory lacks.
 pub fn run_txns<G: Gate + Sync, R: Threads + Wait + Sync>(
     rt: &R,
     alloc: Global,
@@ -49,8 +49,8 @@ pub fn run_txns<G: Gate + Sync, R: Threads + Wait + Sync>(
 /// What a job came to whose text got so far into a sink. Where all of it was taken, the job is done, and the
 /// journals of its groups are left.
 pub fn performed_after(alloc: Global, end: SendEnd, journals: Vec<Journal>) -> Performed
-    ensures { (o : Outcome) (text : List ℕ) (tells : Bool) (old new : SinkSeen) → IsRunTo o text journals.items
-        → IsSent end tells old new text
+    ensures { (o : Outcome) (text : List ℕ) (tells : Bool) (old new : SinkSeen)
+        → IsRunTo o text journals.items → IsSent end tells old new text
         → IsCarriedOut AreOfThreads o tells old new result.answer result.journals.items }
 {
     match end {

@@ -1,8 +1,8 @@
 //! What the words after `serve` ask for: where clients connect, the origin, the configuration, the number of
 //! threads, and after how many connections to end.
-ghost use Rattle.std.specs.Prelude.{◌≡◌, ◌≤◌, ◌<◌, ◌^◌, ℕ, false, map, option_map, string_bytes, IfOk, IfSome, Some};
+ghost use Rattle.std.specs.Prelude.{◌≡◌, ◌<◌, ℕ, false, map, option_map, string_bytes, IfOk, IfSome, Some};
 ghost use Rattle.clap.specs.Words.{app_of, first_value, found_of, rule_of, rows_of};
-ghost use Rattle.ts_words.specs.Found.{HoldsNumber, HoldsText, IsFound};
+ghost use Rattle.ts_words.specs.Found.{HoldsNumber, HoldsText, IsFound, IsUpTo, u32_numbers};
 ghost use Rattle.ts_words.specs.Serve.{IsInRange, number_in, number_option, serve_app, serve_asked, text_option, words_in, words_of};
 
 use clap::builder::ValueParser;
@@ -20,8 +20,11 @@ const MOST_CONNECTIONS: u32 = 4_294_967_295;
 pub struct ServeTask<'a> {
     /// Where clients connect.
     pub listen: &'a str,
+    /// The address of the origin.
     pub origin: &'a str,
+    /// The name of the configuration.
     pub config: &'a str,
+    /// On how many event threads.
     pub threads: u32,
     /// After how many connections it ends.
     pub connections: u32,
@@ -84,10 +87,10 @@ fn text_in<'a>(matches: &ArgMatches<'a>, name: &str) -> &'a str
 
 // The number of an option, which a parse of the command found.
 fn number_in(matches: &ArgMatches<'_>, name: &str) -> u32
-    requires { (most : ℕ) × (most < 2 ^ 32) × HoldsNumber (found_of matches.now) name.now most }
+    requires { (most : ℕ) × (most < u32_numbers) × HoldsNumber (found_of matches.now) name.now most }
     ensures value { result ≡ number_in (rows_of (found_of matches.now)) name.now }
-    ensures range { (most : ℕ) → most < 2 ^ 32 → HoldsNumber (found_of matches.now) name.now most
-        → (1 ≤ result) × (result ≤ most) }
+    ensures range { (most : ℕ) → most < u32_numbers → HoldsNumber (found_of matches.now) name.now most
+        → IsUpTo most result }
 {
     let Some(number) = matches.get_one::<u32>(name) else {
         unreachable!();

@@ -9,9 +9,9 @@ ghost use Rattle.ts_proxy.specs.declared.answer.Answer.{Answer};
 ghost use Rattle.ts_txn.specs.Net.{IsFreshNet};
 ghost use Rattle.tsx.specs.CommandLine.{EndsAs, task_asked};
 
+use crate::fault::lacks_memory;
 use std::alloc::Global;
 use std::env::Env;
-use std::io::ErrorKind;
 use std::sync::Wait;
 use std::thread::Threads;
 use std::{env, io};
@@ -63,7 +63,7 @@ pub fn run_words<
 {
     let words = match words {
         Ok(words) => words,
-        Err(e) if e.kind() == ErrorKind::OutOfMemory => return end_without_words(alloc, err).status,
+        Err(error) if lacks_memory(&error) => return end_without_words(alloc, err).status,
         Err(_) => Vec::new(alloc),
     };
     let ended = run(

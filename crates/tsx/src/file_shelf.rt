@@ -1,14 +1,13 @@
 //! A shelf over files that are opened by their names.
-ghost use Rattle.std.specs.Prelude.{◌≡◌, ◌⊎◌};
-ghost use Rattle.ts_link.specs.declared.shelf.ShelfFault.TheVariants.{Failed, NoMemory};
+ghost use Rattle.std.specs.Prelude.{◌≡◌};
 ghost use Rattle.tsx.specs.Whole.{IsAllOf, KeepsMost};
 
 use crate::count::raised;
+use crate::fault::refused_read;
 use crate::opener::Opener;
 use std::alloc::{AllocError, Global};
 use std::fs::OpenFile;
-use std::io;
-use std::io::{ErrorKind, Read};
+use std::io::Read;
 use ts_link::{Octets, Shelf, ShelfFault};
 
 /// It tells of its files what its opener tells.
@@ -31,17 +30,6 @@ impl<O: Opener> FileShelf<O> {
             faults: 0,
             longs: 0,
         }
-    }
-}
-
-// What an error of the system is to a shelf.
-fn fault_of(error: &io::Error) -> ShelfFault
-    ensures { (result ≡ Failed) ⊎ (result ≡ NoMemory) }
-{
-    if error.kind() == ErrorKind::OutOfMemory {
-        ShelfFault::NoMemory
-    } else {
-        ShelfFault::Failed
     }
 }
 
@@ -68,8 +56,8 @@ fn read_most<F: Read + OpenFile + Drop>(
     if reserve_for(&file, &mut bytes, most).is_err() {
         return Err(ShelfFault::NoMemory);
     }
-    if let Err(e) = file.take(most.saturating_add(1)).read_to_end(&mut bytes) {
-        return Err(fault_of(&e));
+    if let Err(error) = file.take(most.saturating_add(1)).read_to_end(&mut bytes) {
+        return Err(refused_read(&error));
     }
     let seen = bytes.len() as u64;
     if seen > most {
@@ -86,7 +74,7 @@ impl<O: Opener> Shelf for FileShelf<O> {
     fn read(&mut self, alloc: Global, name: &str, most: u64) -> Result<Octets, ShelfFault> {
         let read = match self.opener.open(name) {
             Ok(file) => read_most(alloc, file, most),
-            Err(e) => Err(fault_of(&e)),
+            Err(error) => Err(refused_read(&error)),
         };
         match read {
             Ok(bytes) => Ok(Octets::of_vec(bytes)),

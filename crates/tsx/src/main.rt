@@ -3,6 +3,7 @@
 
 mod command_line;
 mod count;
+mod fault;
 mod file_shelf;
 mod opener;
 mod writer_sink;

@@ -5,6 +5,7 @@ ghost use Rattle.ts_link.specs.Sink.{TakesSome, is_fault, is_lack, taken_of};
 ghost use Rattle.tsx.specs.Handed.{HandsOn};
 
 use crate::count::raised;
+use crate::fault::refused_write;
 use std::io::{ErrorKind, Write};
 use ts_link::{Sink, Wrote};
 
@@ -41,9 +42,8 @@ fn write_some<W: Write>(writer: &mut W, piece: &[u8]) -> Wrote
         match writer.write(piece) {
             Ok(0) => return Wrote::Failed,
             Ok(count) => return Wrote::Took(count),
-            Err(e) if e.kind() == ErrorKind::Interrupted => {}
-            Err(e) if e.kind() == ErrorKind::OutOfMemory => return Wrote::NoMemory,
-            Err(_) => return Wrote::Failed,
+            Err(error) if error.kind() == ErrorKind::Interrupted => {}
+            Err(error) => return refused_write(&error),
         }
     }
     Wrote::Failed

@@ -21,7 +21,7 @@ returns-in-Ok-run_recording g c =
     performed-worked Replay c.args.task.now.config.now c.args.task.now.recording.now g.S.Shelf.tells
     g.K.Sink.tells
     (g.S.Shelf.seen c.args.shelf.now) (g.S.Shelf.seen c.read_files.new.shelf) _ _ _ _
-    (lines_of c.in-Ok.files.setup) c.in-Ok.files.input c.in-Ok.ensures.told
+    (lines_of c.in-Ok.files.setup) c.in-Ok.files.input c.in-Ok.ensures.told c.in-Ok.ensures.same
     (c.send_report.ensures (lines_of c.in-Ok.files.setup) c.in-Ok.files.input
     c.in-Ok-run_recording.ensures.replayed)
 
@@ -31,7 +31,7 @@ returns-in-Err-run_recording g c =
     (performed-worked Replay c.args.task.now.config.now c.args.task.now.recording.now
     g.S.Shelf.tells g.K.Sink.tells
     (g.S.Shelf.seen c.args.shelf.now) (g.S.Shelf.seen c.read_files.new.shelf) _ _ _ _
-    (lines_of c.in-Ok.files.setup) c.in-Ok.files.input c.in-Ok.ensures.told
+    (lines_of c.in-Ok.files.setup) c.in-Ok.files.input c.in-Ok.ensures.told c.in-Ok.ensures.same
     (work-unrun (lines_of c.in-Ok.files.setup) c.in-Ok.files.input g.K.Sink.tells _
     c.in-Err-run_recording.answer _ c.in-Err-run_recording.ensures.refusal
     c.without-in-Err-run_recording.ensures.none))

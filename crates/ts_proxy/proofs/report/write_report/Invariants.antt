@@ -4,8 +4,8 @@ use Rattle.ts_proxy.proofs.report.write_report.Given as goal
 use Rattle.ts_proxy.specs.Took.{TookBut}
 use Rattle.ts_record.specs.Report.{AreReported, report_text}
 
--- all of the report was taken but the lines that are gathered and those that are still to be made, and nothing
--- failed
+-- all of the report was taken but the lines that are gathered and those that are still to be made, and
+-- nothing failed
 abbrev pub invariant-report : goal.invariant-report
 invariant-report g l = record {
   took : g.K.Sink.tells ≡ true → TookBut (g.K.Sink.seen l.initial.out) (g.K.Sink.seen l.out)

@@ -22,7 +22,8 @@ returns-clause-performed g c = λ out_tells out.
     (performed-served (words_of c.args.task.now) g.S.Shelf.tells out_tells (g.S.Shelf.seen c.args.shelf.now)
     (g.S.Shelf.seen c.set_up.new.shelf) out c.serve_net-answer.result _ (lines_of c.in-Ok.setup)
     c.args.task.now.connections (g.N.Net.seen c.args.net.now) (g.N.Net.seen c.serve_net-answer.new.net)
-    (λ tells. c.in-Ok.ensures.told tells [] (λ lines. Serving lines)) c.serve_net-answer.ensures.left.ended
+    (λ tells. c.in-Ok.ensures.told tells [] (λ lines. Serving lines)) c.in-Ok.ensures.same
+    c.serve_net-answer.ensures.left.ended
     c.without-2.ensures.none)
 
 pub returns-clause-net : goal.returns-clause-net

@@ -10,7 +10,7 @@ pub returns-in-Done : goal.returns-in-Done
 returns-in-Done c = λ o text tells old new run sent.
     let all : IsSent Done tells old new text = subst (λ e. IsSent e tells old new text) c.in-Done.is sent in
     work-written AreOfThreads o text tells old new c.args.journals.items run.output run.text_is run.ours run.each
-    all.told
+    all.told all.faults
 
 pub returns-in-Failed : goal.returns-in-Failed
 returns-in-Failed c = λ o text tells old new run sent.
@@ -24,4 +24,5 @@ returns-in-NoMemory c = λ o text tells old new run sent.
     let front : IsSent NoMemory tells old new text = subst (λ e. IsSent e tells old new text) c.in-NoMemory.is sent
     in
     rw c.without-in-NoMemory.ensures.answer
-    (work-stopped AreOfThreads o text tells old new _ run.text_is front.told c.without-in-NoMemory.ensures.none)
+    (work-stopped AreOfThreads o text tells old new _ run.text_is front.told front.faults
+    c.without-in-NoMemory.ensures.none)

@@ -12,7 +12,7 @@ returns g c =
     performed-worked Transform c.args.task.now.config.now c.args.task.now.body.now g.S.Shelf.tells
     g.K.Sink.tells
     (g.S.Shelf.seen c.args.shelf.now) (g.S.Shelf.seen c.read_files.new.shelf) _ _ _ _
-    (lines_of c.in-Ok.files.setup) c.in-Ok.files.input c.in-Ok.ensures.told
+    (lines_of c.in-Ok.files.setup) c.in-Ok.files.input c.in-Ok.ensures.told c.in-Ok.ensures.same
     (subst (λ ls. IsCarriedOut IsOfBody (Text (compose_lines ls c.in-Ok.files.input)) g.K.Sink.tells
     (g.K.Sink.seen c.args.out.now) (g.K.Sink.seen c.send_body.new.out)
     c.send_body.result.answer c.send_body.result.journals.items) c.as_slice.ensures.value c.send_body.ensures)

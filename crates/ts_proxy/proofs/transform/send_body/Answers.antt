@@ -23,6 +23,7 @@ returns-in-Done g c =
     ) tt
     (λ tells. subst (TookAll (g.K.Sink.seen c.args.out.now) (g.K.Sink.seen c.drive.new.out))
     c.in-Ok.ensures.flow (c.in-Done.ensures.told tells))
+    c.in-Done.ensures.faults
 
 pub returns-in-Failed : goal.returns-in-Failed
 returns-in-Failed g c =
@@ -38,4 +39,4 @@ returns-in-NoMemory g c =
     work-stopped IsOfBody (Text text) text g.K.Sink.tells _ _ _ refl
     (λ tells. subst (TookFront (g.K.Sink.seen c.args.out.now) (g.K.Sink.seen c.drive.new.out))
     c.in-Ok.ensures.flow (c.in-NoMemory.ensures.told tells))
-    (c.in-NoMemory.ensures.journals ∙ c.new-journals.ensures.items)
+    c.in-NoMemory.ensures.faults (c.in-NoMemory.ensures.journals ∙ c.new-journals.ensures.items)
