@@ -1,7 +1,10 @@
 //! Why serving a net ends: as many clients came as were to, the net is closed, or it failed.
 
-use crate::row::{Finding, Plan, Row, Takes, check, net, net_of, page, serve_net, undialed};
-use crate::stated::{BAD_GATEWAY, CHUNKED};
+use crate::links::{Counting, Side, at_once, steady};
+use crate::pages::{mixed_visits_of, pages_of, visits_of};
+use crate::row::{Outcome, Row, all_come, check, net_of_row, serve_net};
+use crate::stated::{BAD_GATEWAY, CHUNKED, GET};
+use crate::visit::{Visit, page};
 use std::process::Abort;
 use std::sync::Wait;
 use std::test::Fail;
@@ -13,16 +16,14 @@ use ts_serve::Served;
 /// On how many threads each net is served.
 pub const THREADS: [u32; 3] = [1, 2, 8];
 
-/// On each number of threads the net of a plan is served as it is stated.
+/// On each number of threads a row comes out as it is stated.
 pub fn check_all<R: Abort + AllocGlobal + Threads + Wait + Sync>(
     rt: &R,
-    plan: &Plan<'_>,
-    came: usize,
-    served: Served,
+    row: &Row<'_>,
 ) -> Result<(), Fail> {
     for threads in THREADS {
-        let found = check(rt, rt.alloc(), threads, plan, came, served);
-        assert_eq!(rt; found, Ok(Finding::AsStated), "on {threads} threads");
+        let found = check(rt, rt.alloc(), threads, row);
+        assert_eq!(rt; found, Ok(Outcome::AsStated), "on {threads} threads");
     }
     Ok(())
 }
@@ -30,33 +31,38 @@ pub fn check_all<R: Abort + AllocGlobal + Threads + Wait + Sync>(
 // The net is closed once each client came, also where there is none.
 #[test]
 fn a_closed_net_is_served_whole(rt: HostRuntime) -> Result<(), Fail> {
-    let rows = [page(), undialed(), page()];
-    check_all(&rt, &net(&rows), 3, Served::Whole)?;
-    check_all(&rt, &net(&[]), 0, Served::Whole)
+    let pages = pages_of(rt.alloc(), 3)?;
+    let visits = mixed_visits_of(rt.alloc(), pages.as_slice())?;
+    check_all(&rt, &all_come(visits.as_slice()))?;
+    check_all(&rt, &all_come(&[]))
 }
 
 // An accept that waits is made again.
 #[test]
 fn a_net_that_waits_is_asked_again(rt: HostRuntime) -> Result<(), Fail> {
-    let rows = [page(), page(), undialed()];
-    let waiting = Plan {
+    let pages = pages_of(rt.alloc(), 3)?;
+    let visits = mixed_visits_of(rt.alloc(), pages.as_slice())?;
+    let waiting = Row {
         again: &[1, 2, 4, 5, 6],
-        ..net(&rows)
+        ..all_come(visits.as_slice())
     };
-    check_all(&rt, &waiting, 3, Served::Whole)
+    check_all(&rt, &waiting)
 }
 
 // Who came before a net failed is served to the end, and nobody comes after.
 #[test]
 fn a_net_that_fails_is_asked_for_nobody_more(rt: HostRuntime) -> Result<(), Fail> {
-    let rows = [page(), page(), page()];
-    for (failing, came) in [(1, 0), (2, 1), (4, 3)] {
-        let numbers = [failing];
-        let plan = Plan {
+    let pages = pages_of(rt.alloc(), 3)?;
+    let visits = visits_of(rt.alloc(), pages.as_slice())?;
+    for (number, came) in [(1, 0), (2, 1), (4, 3)] {
+        let numbers = [number];
+        let row = Row {
             failing: &numbers,
-            ..net(&rows)
+            came,
+            served: Served::Failed,
+            ..all_come(visits.as_slice())
         };
-        check_all(&rt, &plan, came, Served::Failed)?;
+        check_all(&rt, &row)?;
     }
     Ok(())
 }
@@ -64,13 +70,18 @@ fn a_net_that_fails_is_asked_for_nobody_more(rt: HostRuntime) -> Result<(), Fail
 // No more clients are let in than are to come, and the net is not asked whether it is closed.
 #[test]
 fn as_many_clients_come_as_are_to(rt: HostRuntime) -> Result<(), Fail> {
-    let rows = [page(), undialed(), page()];
     let alloc = rt.alloc();
+    let pages = pages_of(alloc, 3)?;
+    let visits = mixed_visits_of(alloc, pages.as_slice())?;
     let gate = OpenGate::make();
     for most in 0..3 {
-        let plan = Plan { most, ..net(&rows) };
-        check_all(&rt, &plan, most as usize, Served::Whole)?;
-        let mut served = net_of(alloc, &plan)?;
+        let row = Row {
+            most,
+            came: most as usize,
+            ..all_come(visits.as_slice())
+        };
+        check_all(&rt, &row)?;
+        let mut served = net_of_row(alloc, &row)?;
         serve_net(&rt, alloc, 2, b"", most, &gate, &mut served)?;
         assert_eq!(rt; served.counts().ends, 0, "of {most}");
     }
@@ -80,36 +91,37 @@ fn as_many_clients_come_as_are_to(rt: HostRuntime) -> Result<(), Fail> {
 // A client whose third write fails has got two writes of ten bytes. The other one gets the whole page.
 #[test]
 fn a_client_that_fails_leaves_the_other_alone(rt: HostRuntime) -> Result<(), Fail> {
-    let failing = Row {
-        takes: Takes::Few {
-            bytes: 10,
-            fails: 3,
-        },
+    let failing = Visit {
+        client: Side::Counting(Counting {
+            take: 10,
+            failing_writes: &[3],
+            ..steady(GET)
+        }),
         taken: b"HTTP/1.1 200 OK\r\nvia",
         end: TxnEnd::ClientFault,
         ..page()
     };
-    let whole = Row {
+    let whole = Visit {
         taken: CHUNKED,
         chunks: Some(b"<abc"),
         ..page()
     };
-    let rows = [failing, whole];
-    let plan = Plan {
+    let visits = [failing, whole];
+    let row = Row {
         lines: b"prepend.so <",
-        ..net(&rows)
+        ..all_come(&visits)
     };
-    check_all(&rt, &plan, 2, Served::Whole)
+    check_all(&rt, &row)
 }
 
 // An origin that gives nothing to pass on.
 #[test]
 fn an_origin_that_gives_nothing_is_answered_for(rt: HostRuntime) -> Result<(), Fail> {
-    let silent = Row {
-        origin: Some(b""),
+    let silent = Visit {
+        origin: Some(at_once(b"")),
         taken: BAD_GATEWAY,
         ..page()
     };
-    let rows = [silent, page()];
-    check_all(&rt, &net(&rows), 2, Served::Whole)
+    let visits = [silent, page()];
+    check_all(&rt, &all_come(&visits))
 }

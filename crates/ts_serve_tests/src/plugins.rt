@@ -1,10 +1,11 @@
 //! Nets that are served with hook plugins beside the places.
 
 use crate::ends::check_all;
-use crate::row::{Plan, Row, net, page};
+use crate::links::at_once;
+use crate::row::{Row, all_come};
 use crate::stated::FORBIDDEN;
+use crate::visit::{Visit, page};
 use std::test::Fail;
-use ts_serve::Served;
 
 // A request for a host that is not denied, and what the origin gets of it.
 const OTHER: &[u8] = b"GET / HTTP/1.1\r\nHost: b\r\n\r\n";
@@ -15,20 +16,20 @@ const OTHER_SENT: &[u8] =
 // Each transaction asks the deny list, and that of a host that is not denied the rule behind it.
 #[test]
 fn transactions_ask_the_plugins_beside_them(rt: HostRuntime) -> Result<(), Fail> {
-    let denied = Row {
+    let denied = Visit {
         sent: b"",
         taken: FORBIDDEN,
         ..page()
     };
-    let ruled = Row {
-        gives: OTHER,
+    let ruled = Visit {
+        client: at_once(OTHER),
         sent: OTHER_SENT,
         ..page()
     };
-    let rows = [denied, ruled, denied, ruled, ruled];
-    let plan = Plan {
+    let visits = [denied, ruled, denied, ruled, ruled];
+    let row = Row {
         lines: b"denylist.so a\nheader.so request set x-a 1\n",
-        ..net(&rows)
+        ..all_come(&visits)
     };
-    check_all(&rt, &plan, 5, Served::Whole)
+    check_all(&rt, &row)
 }

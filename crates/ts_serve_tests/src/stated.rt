@@ -14,6 +14,10 @@ pub const ABC: &[u8] = b"HTTP/1.1 200 OK\r\nContent-Length: 3\r\n\r\nabc";
 pub const ABC_TAKEN: &[u8] =
     b"HTTP/1.1 200 OK\r\nvia: 1.1 tsx\r\ncontent-length: 3\r\nconnection: close\r\n\r\nabc";
 
+/// The head of that.
+pub const SIZED: &[u8] =
+    b"HTTP/1.1 200 OK\r\nvia: 1.1 tsx\r\ncontent-length: 3\r\nconnection: close\r\n\r\n";
+
 /// The head that the client gets of it where a line acts.
 pub const CHUNKED: &[u8] =
     b"HTTP/1.1 200 OK\r\nvia: 1.1 tsx\r\ntransfer-encoding: chunked\r\nconnection: close\r\n\r\n";

@@ -1,5 +1,4 @@
-//! The words of `serve`, run over a net, files and sinks in memory.
-ghost use Rattle.ts_txn.specs.MemNet.{seen_of};
+//! The program's words, run over a net, files and sinks in memory.
 ghost use Rattle.ts_txn.specs.Net.{IsFreshNet};
 
 use std::alloc::Global;
@@ -7,37 +6,47 @@ use std::sync::Wait;
 use std::thread::Threads;
 use ts_link::{Gate, MemShelf, MemSink, NoMemory, StepClock};
 use ts_proxy::run;
-use ts_txn::MemNet;
+use ts_txn::Net;
 
 /// What a run left: its status, what out and err took, how many journals it answered, and the net.
 #[derive(Drop)]
-pub struct Remains {
+pub struct Remains<N: Drop> {
     pub status: u8,
     pub out: MemSink,
     pub err: MemSink,
     pub journals: usize,
-    pub net: MemNet,
+    pub net: N,
 }
 
-/// What words leave over a net, where the file `c` holds this configuration.
-pub fn left_by<R: Threads + Wait + Sync, G: Gate + Sync>(
+/// A sink that takes as much a call as it is given.
+pub fn wide_sink(alloc: Global) -> MemSink {
+    MemSink::make(alloc, usize::MAX, Vec::new(alloc))
+}
+
+/// A shelf whose file `c` holds this configuration.
+pub fn shelf_of(alloc: Global, config: &[u8]) -> Result<MemShelf, NoMemory> {
+    let mut shelf = MemShelf::make(alloc);
+    shelf.add("c", config)?;
+    Ok(shelf)
+}
+
+/// What words leave over these files, this net and this sink.
+pub fn left_by<R: Threads + Wait + Sync, N: Net + Drop, G: Gate + Sync>(
     rt: &R,
     alloc: Global,
     words: &[&str],
-    config: &[u8],
-    mut net: MemNet,
+    mut shelf: MemShelf,
+    mut net: N,
+    mut out: MemSink,
     gate: &G,
-) -> Result<Remains, NoMemory>
-    requires { IsFreshNet (seen_of net) }
+) -> Result<Remains<N>, NoMemory>
+    requires { IsFreshNet (N.seen net) }
 {
     let mut said = Vec::new(alloc);
     for word in words {
         said.push(String::from_str(alloc, word)?)?;
     }
-    let mut shelf = MemShelf::make(alloc);
-    shelf.add("c", config)?;
-    let mut out = MemSink::make(alloc, usize::MAX, Vec::new(alloc));
-    let mut err = MemSink::make(alloc, usize::MAX, Vec::new(alloc));
+    let mut err = wide_sink(alloc);
     let clock = StepClock::make(0);
     let ended = run(
         rt,

@@ -1,16 +1,18 @@
 //! Rows: a net that is served under a configuration, and what is stated of the run.
+ghost use Rattle.ts_txn.specs.Net.{IsFreshNet};
 
-use crate::command::{Remains, left_by};
-use crate::finding::{Finding, judge};
-use crate::net::net_of;
-use crate::stated::NETWORK;
-use crate::visit::Visit;
+use crate::command::{Remains, left_by, shelf_of, wide_sink};
+use crate::stated::{LISTEN, NETWORK, ORIGIN};
 use std::alloc::Global;
 use std::process::Abort;
 use std::sync::Wait;
 use std::test::Fail;
 use std::thread::Threads;
 use ts_link::{Gate, NoMemory, OpenGate};
+use ts_serve_tests::finding::{Finding, judge};
+use ts_serve_tests::net::net_of;
+use ts_serve_tests::visit::Visit;
+use ts_txn::{MemNet, Net};
 
 /// On how many threads each net is served.
 pub const THREADS: [&str; 3] = ["1", "2", "8"];
@@ -28,6 +30,20 @@ pub struct Row<'a> {
     pub came: usize,
     pub status: u8,
     pub says: &'a [u8],
+}
+
+/// What came of a run: all as it is stated, or the first that is other.
+#[derive(Clone, Copy, Debug, PartialEq, Eq)]
+pub enum Outcome {
+    AsStated,
+    OtherStatus(u8),
+    OtherLine,
+    /// Out took something, or a journal was answered.
+    NotQuiet,
+    /// What the net was handed is other.
+    Other(Finding),
+    /// Memory lacked.
+    Lacks,
 }
 
 /// A net to which all of these clients come, with nothing configured.
@@ -55,21 +71,23 @@ pub fn failing_at<'a>(visits: &'a [Visit<'a>], number: &'a [u64; 1], came: usize
     }
 }
 
-/// What is left where a row is served on so many threads, whose handlers pass this gate.
-pub fn served<R: Threads + Wait + Sync, G: Gate + Sync>(
+/// What is left where this net is served as a row says, on so many threads, whose handlers pass this gate.
+pub fn left_over<R: Threads + Wait + Sync, N: Net + Drop, G: Gate + Sync>(
     rt: &R,
     alloc: Global,
     threads: &str,
     row: &Row<'_>,
+    net: N,
     gate: &G,
-) -> Result<Remains, NoMemory> {
-    let net = net_of(alloc, row.visits, row.again, row.failing)?;
+) -> Result<Remains<N>, NoMemory>
+    requires { IsFreshNet (N.seen net) }
+{
     let words = [
         "serve",
         "--listen",
-        "l",
+        LISTEN,
         "--origin",
-        "o",
+        ORIGIN,
         "--config",
         "c",
         "--threads",
@@ -77,24 +95,52 @@ pub fn served<R: Threads + Wait + Sync, G: Gate + Sync>(
         "--connections",
         row.connections,
     ];
-    left_by(rt, alloc, &words, row.config, net, gate)
+    let shelf = shelf_of(alloc, row.config)?;
+    left_by(rt, alloc, &words, shelf, net, wide_sink(alloc), gate)
 }
 
-/// Whether that is as it is stated.
-pub fn compare(alloc: Global, row: &Row<'_>, left: &Remains) -> Result<Finding, NoMemory> {
-    if left.status == 7 {
-        return Ok(Finding::Lacks);
-    }
+/// What is left where the net of a row is served on so many threads, whose handlers pass this gate.
+pub fn served<R: Threads + Wait + Sync, G: Gate + Sync>(
+    rt: &R,
+    alloc: Global,
+    threads: &str,
+    row: &Row<'_>,
+    gate: &G,
+) -> Result<Remains<MemNet>, NoMemory> {
+    let net = net_of(alloc, row.visits, row.again, row.failing)?;
+    left_over(rt, alloc, threads, row, net, gate)
+}
+
+/// Whether the program ended and said what a row states, with nothing on out and no journal.
+pub fn compare_end<N: Drop>(row: &Row<'_>, left: &Remains<N>) -> Outcome {
     if left.status != row.status {
-        return Ok(Finding::OtherStatus);
+        return if left.status == 7 {
+            Outcome::Lacks
+        } else {
+            Outcome::OtherStatus(left.status)
+        };
     }
     if left.err.written() != row.says {
-        return Ok(Finding::OtherLine);
+        return Outcome::OtherLine;
     }
     if !left.out.written().is_empty() || left.journals != 0 {
-        return Ok(Finding::NotQuiet);
+        return Outcome::NotQuiet;
     }
-    judge(alloc, row.visits, row.came, left.net.retired())
+    Outcome::AsStated
+}
+
+/// Whether the run left what its row states.
+pub fn compare(alloc: Global, row: &Row<'_>, left: &Remains<MemNet>) -> Result<Outcome, NoMemory> {
+    let ended = compare_end(row, left);
+    if ended != Outcome::AsStated {
+        return Ok(ended);
+    }
+    let found = judge(alloc, row.visits, row.came, left.net.retired())?;
+    Ok(match found {
+        Finding::AsStated => Outcome::AsStated,
+        Finding::Lacks => Outcome::Lacks,
+        other => Outcome::Other(other),
+    })
 }
 
 /// Whether a row comes out as stated on so many threads.
@@ -103,7 +149,7 @@ pub fn check_on<R: Threads + Wait + Sync>(
     alloc: Global,
     threads: &str,
     row: &Row<'_>,
-) -> Result<Finding, NoMemory> {
+) -> Result<Outcome, NoMemory> {
     let left = served(rt, alloc, threads, row, &OpenGate::make())?;
     compare(alloc, row, &left)
 }
@@ -115,7 +161,7 @@ pub fn check<R: Abort + AllocGlobal + Threads + Wait + Sync>(
 ) -> Result<(), Fail> {
     for threads in THREADS {
         let found = check_on(rt, rt.alloc(), threads, row);
-        assert_eq!(rt; found, Ok(Finding::AsStated), "on {threads} threads");
+        assert_eq!(rt; found, Ok(Outcome::AsStated), "on {threads} threads");
     }
     Ok(())
 }

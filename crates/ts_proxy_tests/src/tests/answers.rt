@@ -5,7 +5,7 @@ use crate::recording::at_once;
 use crate::report::StatedEnd;
 use crate::row::{Row, dripping, get, head};
 use crate::stated::{
-    ABC, BAD_GATEWAY, BAD_REQUEST, HOSTLESS, NOT_IMPLEMENTED, NOTHING, SIZED, StatedAnswer, unasked,
+    ABC, BAD_GATEWAY, BAD_REQUEST, HOSTLESS, NOT_IMPLEMENTED, NOTHING, StatedAnswer, unasked,
 };
 use std::test::Fail;
 
@@ -83,21 +83,4 @@ fn origins_without_a_response(rt: HostRuntime) -> Result<(), Fail> {
         head(b"", b"", BAD_GATEWAY.head),
     ];
     check_all(&rt, &rows)
-}
-
-// The first so many bytes of a response of 41, whose head has 38: before these all of the answer is the
-// proxy's own.
-#[test]
-fn fronts_of_a_response(rt: HostRuntime) -> Result<(), Fail> {
-    assert_eq!(rt; ABC.len(), 41);
-    for length in 0..ABC.len() {
-        let (front, _) = ABC.split_at(length);
-        let row = if length < 38 {
-            unanswered(front)
-        } else {
-            get(b"", front, SIZED, StatedEnd::Cut)
-        };
-        check_all(&rt, &[row])?;
-    }
-    Ok(())
 }

@@ -190,10 +190,6 @@ fn left_in_trouble<R: Threads + Wait + Sync>(
 
 #[test]
 fn causes(rt: HostRuntime) -> Result<(), Fail> {
-    let front = Wanted {
-        out: b"a",
-        ..stopped(6, CANNOT_WRITE)
-    };
     let untold = Trouble {
         untold: 1,
         ..unread(2)
@@ -204,10 +200,6 @@ fn causes(rt: HostRuntime) -> Result<(), Fail> {
         (asked(&["transform", "c", "b", "b"]), stopped(2, USAGE)),
         (asked(&["generate", "c", "b"]), stopped(2, USAGE)),
         (unwritten(65_536, 1), stopped(6, CANNOT_WRITE)),
-        (unwritten(1, 2), front),
-        (unread(1), stopped(5, b"tsx: cannot read c\n")),
-        (unread(2), stopped(5, b"tsx: cannot read tail.txt\n")),
-        (unread(3), stopped(5, b"tsx: cannot read b\n")),
         (untold, stopped(5, b"")),
         (
             asked(&["transform", "c", "d"]),

@@ -1,73 +1,49 @@
-//! What single clients get: one that fails, ones that stall, and ones that leave at each byte.
+//! What single clients get: ones whose origin is not reached, ones that stall, and ones that leave at each
+//! byte.
 
-use crate::row::{Row, all_come, check};
-use crate::stated::{ABC_TAKEN, CHUNKED, GET};
-use crate::visit::{Takes, Visit, page, undialed};
+use crate::row::{all_come, check};
 use std::alloc::Global;
 use std::test::Fail;
 use ts_hooks::TxnEnd;
 use ts_link::NoMemory;
-
-// A client whose third write fails has got two writes of ten bytes. The other one gets all of it.
-#[test]
-fn a_client_that_fails_leaves_the_other_alone(rt: HostRuntime) -> Result<(), Fail> {
-    let failing = Visit {
-        takes: Takes::Few {
-            bytes: 10,
-            fails: 3,
-        },
-        taken: b"HTTP/1.1 200 OK\r\nvia",
-        end: TxnEnd::ClientFault,
-        ..page()
-    };
-    let whole = Visit {
-        taken: CHUNKED,
-        chunks: Some(b"<abc"),
-        ..page()
-    };
-    let visits = [failing, whole];
-    let row = Row {
-        config: b"prepend.so <",
-        ..all_come(&visits)
-    };
-    check(&rt, &row)
-}
+use ts_serve_tests::links::{Side, Stalling, staying};
+use ts_serve_tests::stated::{ABC_TAKEN, GET};
+use ts_serve_tests::visit::{Visit, page, unreached};
 
 // A dial that fails gives its client the proxy's own answer.
 #[test]
 fn an_origin_that_is_not_reached_is_answered_for(rt: HostRuntime) -> Result<(), Fail> {
-    let visits = [undialed(), page(), undialed()];
+    let visits = [unreached(page()), page(), unreached(page())];
     check(&rt, &all_come(&visits))
+}
+
+// A client that waits for so many reads once it gave so many bytes of its request.
+fn late_at<'a>(stalls_at: usize, stall: u32) -> Visit<'a> {
+    let client = Side::Stalling(Stalling {
+        stalls_at,
+        stall,
+        ..staying(GET)
+    });
+    Visit { client, ..page() }
 }
 
 // Who waits longer is served later, and nobody waits for it.
 #[test]
 fn clients_that_stall_are_served(rt: HostRuntime) -> Result<(), Fail> {
-    let page = page();
     let visits = [
-        Visit { stall: 100, ..page },
-        page,
-        Visit { stall: 1, ..page },
-        Visit { stall: 10, ..page },
+        late_at(0, 100),
+        late_at(0, 0),
+        late_at(0, 1),
+        late_at(0, 10),
     ];
     check(&rt, &all_come(&visits))
-}
-
-// A client that waits once it gave so many bytes of its request.
-fn stalling<'a>(stalls_at: usize) -> Visit<'a> {
-    let page = page();
-    Visit {
-        stall: 3,
-        stalls_at,
-        ..page
-    }
 }
 
 // Clients that wait before each byte, and one that waits behind the last.
 fn all_stalling<'a>(alloc: Global) -> Result<Vec<Visit<'a>>, NoMemory> {
     let mut visits = Vec::new(alloc);
     for at in 0..=GET.len() {
-        visits.push(stalling(at))?;
+        visits.push(late_at(at, 3))?;
     }
     Ok(visits)
 }
@@ -80,18 +56,20 @@ fn clients_stall_at_each_byte(rt: HostRuntime) -> Result<(), Fail> {
 
 // A client that leaves when it took so many bytes of its page.
 fn leaving<'a>(at: usize) -> Visit<'a> {
-    let page = page();
+    let client = Side::Stalling(Stalling {
+        leave: Some(at as u64),
+        ..staying(GET)
+    });
     let text: &[u8] = ABC_TAKEN;
-    let takes = Takes::Until(at as u64);
     if at >= text.len() {
-        return Visit { takes, ..page };
+        return Visit { client, ..page() };
     }
-    let (taken, _behind) = text.split_at(at);
+    let (taken, _) = text.split_at(at);
     Visit {
-        takes,
+        client,
         taken,
         end: TxnEnd::ClientFault,
-        ..page
+        ..page()
     }
 }
 

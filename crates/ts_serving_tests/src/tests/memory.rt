@@ -1,26 +1,23 @@
 //! A net of which an allocation may be refused: it is served whole, or not for want of memory, and whole when
 //! it is served again.
 
-use crate::finding::Finding;
-use crate::row::{Row, all_come, check_on};
-use crate::visit::{page, undialed};
+use crate::row::{Outcome, Row, all_come, check_on};
 use std::alloc::Global;
 use std::sync::Wait;
 use std::test::Fail;
 use std::thread::Threads;
 use ts_link::NoMemory;
+use ts_serve_tests::pages::{mixed_visits_of, pages_of};
 
-// What comes of a row on two threads, and of the same again where memory lacked.
-fn check_again<R: Threads + Wait + Sync>(
-    rt: &R,
-    alloc: Global,
-    row: &Row<'_>,
-) -> Result<Finding, NoMemory> {
-    match check_on(rt, alloc, "2", row) {
-        Ok(Finding::Lacks) => check_on(rt, alloc, "2", row),
-        Err(NoMemory) => check_on(rt, alloc, "2", row),
-        other => other,
-    }
+// What comes of a net of three clients on two threads.
+fn serve_three<R: Threads + Wait + Sync>(rt: &R, alloc: Global) -> Result<Outcome, NoMemory> {
+    let pages = pages_of(alloc, 3)?;
+    let visits = mixed_visits_of(alloc, pages.as_slice())?;
+    let row = Row {
+        config: b"denylist.so b\n",
+        ..all_come(visits.as_slice())
+    };
+    check_on(rt, alloc, "2", &row)
 }
 
 // With ample memory it is served whole. Run with each allocation refused in turn (`rt try --test --fail-alloc
@@ -28,12 +25,11 @@ fn check_again<R: Threads + Wait + Sync>(
 // the second time.
 #[test]
 fn a_net_is_served_whole_or_memory_lacked(rt: HostRuntime) -> Result<(), Fail> {
-    let visits = [page(), undialed(), page()];
-    let row = Row {
-        config: b"denylist.so b\n",
-        ..all_come(&visits)
+    let found = match serve_three(&rt, rt.alloc()) {
+        Ok(Outcome::Lacks) => serve_three(&rt, rt.alloc()),
+        Err(NoMemory) => serve_three(&rt, rt.alloc()),
+        other => other,
     };
-    let found = check_again(&rt, rt.alloc(), &row);
-    assert_eq!(rt; found, Ok(Finding::AsStated));
+    assert_eq!(rt; found, Ok(Outcome::AsStated));
     Ok(())
 }

@@ -1,4 +1,4 @@
-//! Whether what is left of a client is what is stated of it.
+//! Whether what is left of the clients of a net is what is stated of them.
 
 use crate::visit::Visit;
 use std::alloc::Global;
@@ -6,20 +6,17 @@ use ts_hooks::TxnEnd;
 use ts_link::{MemLink, NoMemory};
 use ts_txn::Retired;
 
-/// What came of a run: all as it is stated, or the first that is other.
+/// What came of the clients of a net: all as it is stated, or the first that is other.
 #[derive(Clone, Copy, Debug, PartialEq, Eq)]
 pub enum Finding {
     AsStated,
-    OtherStatus,
-    OtherLine,
-    /// Out took something, or a journal was answered.
-    NotQuiet,
     /// Another number of transactions was handed over.
     OtherCount,
     /// The transaction of a client was not handed over, or more than once.
     OtherNumber,
     OtherEnd,
-    OtherDial,
+    /// The origin got another request, or was reached where it is not to be.
+    OtherRequest,
     OtherText,
     /// Memory lacked.
     Lacks,
@@ -61,6 +58,14 @@ fn text_of(alloc: Global, visit: &Visit<'_>, cuts: &[u32]) -> Result<Option<Vec<
     Ok(Some(text))
 }
 
+// What the origin of a client got.
+fn sent_to(origin: &Option<MemLink>) -> &[u8] {
+    match origin {
+        Some(link) => link.written(),
+        None => b"",
+    }
+}
+
 // Whether what is left of a transaction is as its client states.
 fn judge_one(
     alloc: Global,
@@ -74,8 +79,8 @@ fn judge_one(
     if parts.end != Some(visit.end) {
         return Ok(Finding::OtherEnd);
     }
-    if parts.origin.is_some() != visit.origin.is_some() {
-        return Ok(Finding::OtherDial);
+    if parts.origin.is_some() != visit.origin.is_some() || sent_to(&parts.origin) != visit.sent {
+        return Ok(Finding::OtherRequest);
     }
     let Some(text) = text_of(alloc, visit, parts.cuts.as_slice())? else {
         return Ok(Finding::OtherText);
@@ -103,6 +108,31 @@ fn only_one<'a>(
     found
 }
 
+/// Whether a net was handed one transaction for each of these clients but the one of this number, if it is
+/// told, as they state.
+pub fn judge_but(
+    alloc: Global,
+    visits: &[Visit<'_>],
+    dropped: Option<u64>,
+    retired: &[Retired<MemLink, MemLink>],
+) -> Result<Finding, NoMemory> {
+    let mut number: u64 = 0;
+    for visit in visits {
+        number = number.saturating_add(1);
+        if dropped == Some(number) {
+            continue;
+        }
+        let Some(one) = only_one(retired, number) else {
+            return Ok(Finding::OtherNumber);
+        };
+        let finding = judge_one(alloc, visit, one)?;
+        if finding != Finding::AsStated {
+            return Ok(finding);
+        }
+    }
+    Ok(Finding::AsStated)
+}
+
 /// Whether a net was handed one transaction for each of the first so many clients, as they state, and no
 /// other.
 pub fn judge(
@@ -114,16 +144,6 @@ pub fn judge(
     if retired.len() != came {
         return Ok(Finding::OtherCount);
     }
-    let mut number: u64 = 0;
-    for visit in visits.iter().take(came) {
-        number = number.saturating_add(1);
-        let Some(one) = only_one(retired, number) else {
-            return Ok(Finding::OtherNumber);
-        };
-        let finding = judge_one(alloc, visit, one)?;
-        if finding != Finding::AsStated {
-            return Ok(finding);
-        }
-    }
-    Ok(Finding::AsStated)
+    let (first, _) = visits.split_at(came.min(visits.len()));
+    judge_but(alloc, first, None, retired)
 }

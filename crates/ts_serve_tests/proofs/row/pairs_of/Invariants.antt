@@ -1,7 +1,0 @@
--- No link that was added was used.
-use Rattle.std.specs.List.{All}
-use Rattle.ts_txn.specs.PairStock.{IsNewPair}
-use Rattle.ts_serve_tests.proofs.row.pairs_of.Given as goal
-
-abbrev pub invariant-loop-row : goal.invariant-loop-row
-invariant-loop-row l = All IsNewPair l.pairs.items

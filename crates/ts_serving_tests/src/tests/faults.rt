@@ -1,0 +1,345 @@
+//! The table of faults: recordings and responses that stop anywhere, sinks, files and links that fail or
+//! wait, and what each of them comes to, on one thread and on more.
+ghost use Rattle.std.specs.Prelude.{IfOk};
+ghost use Rattle.ts_txn.specs.MemNet.{seen_of};
+ghost use Rattle.ts_txn.specs.Net.{IsFreshNet};
+
+use crate::command::{Remains, left_by, wide_sink};
+use crate::row::{Outcome, Row, THREADS, all_come, check, compare, served};
+use crate::stated::LESS;
+use std::alloc::Global;
+use std::process::Abort;
+use std::sync::Wait;
+use std::test::Fail;
+use std::thread::Threads;
+use ts_hooks::TxnEnd;
+use ts_link::{MemShelf, MemSink, NoMemory, OpenGate};
+use ts_serve_tests::links::{Counting, Side, steady};
+use ts_serve_tests::net::net_of;
+use ts_serve_tests::stated::{ABC, BAD_GATEWAY, CHUNKED, GET, SIZED};
+use ts_serve_tests::visit::{Visit, page, unreached};
+use ts_txn::MemNet;
+
+// The report where its origin gives no whole head.
+const ANSWERED: &[u8] = b"tsx-report 1\ntxn 1\nrequest 60\nGET / HTTP/1.1\r\nhost: a\r\n\
+via: 1.1 tsx\r\nconnection: close\r\n\r\n\nend whole\nhead 93\nHTTP/1.1 502 Bad Gateway\r\n\
+content-type: text/plain\r\ncontent-length: 16\r\nconnection: close\r\n\r\n\n\
+body 16\n502 Bad Gateway\n\ndone\n";
+
+// The report where it gives a whole head and not its whole body.
+const CUT: &[u8] = b"tsx-report 1\ntxn 1\nrequest 60\nGET / HTTP/1.1\r\nhost: a\r\n\
+via: 1.1 tsx\r\nconnection: close\r\n\r\n\nend cut\nhead 80\nHTTP/1.1 200 OK\r\nvia: 1.1 tsx\r\n\
+transfer-encoding: chunked\r\nconnection: close\r\n\r\n\ndone\n";
+
+// What a command is to leave: its status, what out takes, and what is said.
+#[derive(Clone, Copy)]
+struct Wanted<'a> {
+    status: u8,
+    out: &'a [u8],
+    says: &'a [u8],
+}
+
+// A command left what it is to leave.
+fn is_left(rt: &impl Abort, left: &Remains<MemNet>, wanted: &Wanted<'_>) -> Result<(), Fail> {
+    assert_eq!(rt; left.status, wanted.status);
+    assert_eq!(rt; left.out.written(), wanted.out);
+    assert_eq!(rt; left.err.written(), wanted.says);
+    Ok(())
+}
+
+// A net to which nobody comes.
+fn nobody(alloc: Global) -> Result<MemNet, NoMemory>
+    ensures { IfOk result (λ net. IsFreshNet (seen_of net)) }
+{
+    net_of(alloc, &[], &[], &[])
+}
+
+// A recording of one transaction, with this number as the length of the request and this response, if any.
+fn recording_of(alloc: Global, length: &[u8], response: &[u8]) -> Result<Vec<u8>, NoMemory> {
+    let mut text = Vec::from_slice(alloc, b"tsx-recording 1\ntxn\nclient ")?;
+    text.extend_from_slice(length)?;
+    text.extend_from_slice(b"\n")?;
+    text.extend_from_slice(GET)?;
+    text.extend_from_slice(b"\n")?;
+    if !response.is_empty() {
+        let count = response.len();
+        let line = format!(in alloc; "origin {count}\n")?;
+        text.extend_from_slice(line.as_bytes())?;
+        text.extend_from_slice(response)?;
+        text.extend_from_slice(b"\n")?;
+    }
+    text.extend_from_slice(b"close\nend\n")?;
+    Ok(text)
+}
+
+// A recording comes to this, on 1 thread and on 8.
+fn replays<R: Abort + AllocGlobal + Threads + Wait + Sync>(
+    rt: &R,
+    recording: &[u8],
+    wanted: &Wanted<'_>,
+) -> Result<(), Fail> {
+    let alloc = rt.alloc();
+    for threads in ["1", "8"] {
+        let mut shelf = MemShelf::make(alloc);
+        shelf.add("c", LESS)?;
+        shelf.add("r", recording)?;
+        let words = ["replay", "--threads", threads, "c", "r"];
+        let net = nobody(alloc)?;
+        let gate = OpenGate::make();
+        let left = left_by(rt, alloc, &words, shelf, net, wide_sink(alloc), &gate)?;
+        is_left(rt, &left, wanted)?;
+    }
+    Ok(())
+}
+
+// A recording is refused at this offset.
+fn is_refused<R: Abort + AllocGlobal + Threads + Wait + Sync>(
+    rt: &R,
+    recording: &[u8],
+    offset: usize,
+) -> Result<(), Fail> {
+    let line = format!(in rt.alloc(); "tsx: recording offset {offset}\n")?;
+    let wanted = Wanted {
+        status: 4,
+        out: b"",
+        says: line.as_bytes(),
+    };
+    replays(rt, recording, &wanted)
+}
+
+// A body of `abc` with `XY` behind it comes to this, where the read and the write of these numbers fail,
+// counted from 1, and out takes one byte a write.
+fn transforms<R: Abort + AllocGlobal + Threads + Wait + Sync>(
+    rt: &R,
+    read: u64,
+    write: u64,
+    wanted: &Wanted<'_>,
+) -> Result<(), Fail> {
+    let alloc = rt.alloc();
+    let mut shelf = MemShelf::make(alloc);
+    shelf.add("c", b"append_transform.so tail.txt")?;
+    shelf.add("tail.txt", b"XY")?;
+    shelf.add("b", b"abc")?;
+    shelf.fail_at(read)?;
+    let out = MemSink::make(alloc, 1, vec![in alloc; write]?);
+    let words = ["transform", "c", "b"];
+    let net = nobody(alloc)?;
+    let left = left_by(rt, alloc, &words, shelf, net, out, &OpenGate::make())?;
+    is_left(rt, &left, wanted)
+}
+
+// Clients that are served with a line that acts.
+fn through_a_line<'a>(visits: &'a [Visit<'a>]) -> Row<'a> {
+    Row {
+        config: LESS,
+        ..all_come(visits)
+    }
+}
+
+// The client of a page and its origin come out as it is stated, having waited so often each.
+fn waits<R: Abort + AllocGlobal + Threads + Wait + Sync>(
+    rt: &R,
+    visit: Visit<'_>,
+    client: u64,
+    origin: u64,
+) -> Result<(), Fail> {
+    let visits = [visit];
+    let row = all_come(&visits);
+    for threads in THREADS {
+        let left = served(rt, rt.alloc(), threads, &row, &OpenGate::make())?;
+        assert_eq!(rt; compare(rt.alloc(), &row, &left), Ok(Outcome::AsStated));
+        let [one] = left.net.retired() else {
+            return Err("one was handed over")?;
+        };
+        assert_eq!(rt; one.parts.client.waits(), client);
+        if let Some(link) = &one.parts.origin {
+            assert_eq!(rt; link.waits(), origin);
+        }
+    }
+    Ok(())
+}
+
+#[test]
+fn truncated_recordings(rt: HostRuntime) -> Result<(), Fail> {
+    let text = recording_of(rt.alloc(), b"27", ABC)?;
+    assert_eq!(rt; text.len(), 120);
+    for length in 0..text.len() {
+        let (front, _) = text.as_slice().split_at(length);
+        is_refused(&rt, front, length)?;
+    }
+    Ok(())
+}
+
+// Of the greater one four digits are still the front of a length within its limits.
+#[test]
+fn recorded_lengths_that_are_too_small_or_too_great(rt: HostRuntime) -> Result<(), Fail> {
+    let small = recording_of(rt.alloc(), b"0", ABC)?;
+    is_refused(&rt, small.as_slice(), 27)?;
+    let great = recording_of(rt.alloc(), b"40000", ABC)?;
+    is_refused(&rt, great.as_slice(), 31)
+}
+
+#[test]
+fn truncated_responses(rt: HostRuntime) -> Result<(), Fail> {
+    for length in 0..ABC.len() {
+        let (front, _) = ABC.split_at(length);
+        let wanted = Wanted {
+            status: 0,
+            out: if length < 38 { ANSWERED } else { CUT },
+            says: b"",
+        };
+        let text = recording_of(rt.alloc(), b"27", front)?;
+        replays(&rt, text.as_slice(), &wanted)?;
+    }
+    Ok(())
+}
+
+#[test]
+fn a_sink_that_fails_at_each_write(rt: HostRuntime) -> Result<(), Fail> {
+    let text: &[u8] = b"abcXY";
+    for written in 0..text.len() {
+        let (out, _) = text.split_at(written);
+        let wanted = Wanted {
+            status: 6,
+            out,
+            says: b"tsx: cannot write\n",
+        };
+        transforms(&rt, 0, written as u64 + 1, &wanted)?;
+    }
+    let whole = Wanted {
+        status: 0,
+        out: text,
+        says: b"",
+    };
+    transforms(&rt, 0, 6, &whole)
+}
+
+#[test]
+fn a_file_that_fails_at_each_read(rt: HostRuntime) -> Result<(), Fail> {
+    let lines: [&[u8]; 3] = [
+        b"tsx: cannot read c\n",
+        b"tsx: cannot read tail.txt\n",
+        b"tsx: cannot read b\n",
+    ];
+    for (place, says) in lines.iter().enumerate() {
+        let wanted = Wanted {
+            status: 5,
+            out: b"",
+            says: *says,
+        };
+        transforms(&rt, place as u64 + 1, 0, &wanted)?;
+    }
+    Ok(())
+}
+
+// The write of this number to the first client fails: it took what the writes before brought, and the second
+// one is served whole.
+fn fails_at_a_write<R: Abort + AllocGlobal + Threads + Wait + Sync>(
+    rt: &R,
+    write: u64,
+) -> Result<(), Fail> {
+    let numbers = [write];
+    let brought = (write as usize).saturating_sub(1).saturating_mul(10);
+    let (taken, _) = CHUNKED.split_at(brought.min(CHUNKED.len()));
+    let failing = Visit {
+        client: Side::Counting(Counting {
+            take: 10,
+            failing_writes: &numbers,
+            ..steady(GET)
+        }),
+        taken,
+        end: TxnEnd::ClientFault,
+        ..page()
+    };
+    let whole = Visit {
+        taken: CHUNKED,
+        chunks: Some(b"<abc"),
+        ..page()
+    };
+    check(rt, &through_a_line(&[failing, whole]))
+}
+
+#[test]
+fn a_client_whose_write_fails(rt: HostRuntime) -> Result<(), Fail> {
+    for write in 1..=8 {
+        fails_at_a_write(&rt, write)?;
+    }
+    Ok(())
+}
+
+// Its head came whole, and nothing of its body.
+#[test]
+fn an_origin_whose_second_read_fails(rt: HostRuntime) -> Result<(), Fail> {
+    let failing = Side::Counting(Counting {
+        cuts: &[38],
+        failing_reads: &[2],
+        ..steady(ABC)
+    });
+    let visit = Visit {
+        origin: Some(failing),
+        taken: SIZED,
+        end: TxnEnd::OriginFault,
+        ..page()
+    };
+    check(&rt, &all_come(&[visit, page()]))
+}
+
+#[test]
+fn an_origin_whose_first_read_fails(rt: HostRuntime) -> Result<(), Fail> {
+    assert_eq!(rt; BAD_GATEWAY.len(), 109);
+    let failing = Side::Counting(Counting {
+        failing_reads: &[1],
+        ..steady(ABC)
+    });
+    let visit = Visit {
+        origin: Some(failing),
+        taken: BAD_GATEWAY,
+        end: TxnEnd::OriginFault,
+        ..page()
+    };
+    check(&rt, &all_come(&[visit, page()]))
+}
+
+#[test]
+fn an_origin_that_is_not_reached(rt: HostRuntime) -> Result<(), Fail> {
+    check(&rt, &all_come(&[unreached(page()), page()]))
+}
+
+#[test]
+fn a_client_that_waits_at_its_first_two_writes(rt: HostRuntime) -> Result<(), Fail> {
+    let client = Side::Counting(Counting {
+        waiting_writes: &[1, 2],
+        ..steady(GET)
+    });
+    waits(&rt, Visit { client, ..page() }, 2, 0)
+}
+
+// Every second call up to the fortieth.
+const EVEN: &[u64] = &[
+    2, 4, 6, 8, 10, 12, 14, 16, 18, 20, 22, 24, 26, 28, 30, 32, 34, 36, 38, 40,
+];
+
+// Pieces of one byte each.
+const SINGLE: &[u32] = &[1; 24];
+
+// A link that waits at these calls, and gives and takes one byte a call.
+fn halting(gives: &[u8]) -> Side<'_> {
+    Side::Counting(Counting {
+        cuts: SINGLE,
+        take: 1,
+        waiting_reads: EVEN,
+        waiting_writes: EVEN,
+        ..steady(gives)
+    })
+}
+
+// Each of the two makes more than forty reads and more than forty writes.
+#[test]
+fn links_that_wait_at_every_second_call(rt: HostRuntime) -> Result<(), Fail> {
+    let visit = Visit {
+        client: halting(GET),
+        origin: Some(halting(ABC)),
+        ..page()
+    };
+    waits(&rt, visit, 40, 40)
+}
