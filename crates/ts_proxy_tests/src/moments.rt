@@ -1,4 +1,5 @@
-//! When the events of a journal were handled, and for when they were set.
+//! When the events of a journal were handled, and for when they were set, as far as its entries were not
+//! folded.
 
 use ts_journal::{Entry, Journal};
 
@@ -44,4 +45,16 @@ pub fn waits_of(entries: &[Entry]) -> u64 {
         }
     }
     waits
+}
+
+/// How many of these entries are of an event that was handled.
+pub fn handled_in(entries: &[Entry]) -> u64 {
+    let mut handled: u64 = 0;
+    for entry in entries {
+        match entry {
+            Entry::Handled { .. } => handled = handled.wrapping_add(1),
+            _ => {}
+        }
+    }
+    handled
 }

@@ -4,7 +4,7 @@
 use super::check_all;
 use crate::command::{ON_1, ON_2, ON_8, REPLAY, replayed};
 use crate::comparison::{Comparison, compare, stopped};
-use crate::moments::waits_of;
+use crate::moments::{handled_in, waits_of};
 use crate::parts::{add_ended, add_number};
 use crate::recording::{at_once, recording_of};
 use crate::report::StatedEnd;
@@ -142,7 +142,10 @@ struct Tally {
     txns: usize,
     /// How many events the transactions handled.
     handled: u64,
-    /// How often one of them waited.
+    /// How many of these still have an entry. A journal with 4,096 entries is folded, so one that waited a
+    /// thousand times has lost its first ones.
+    stored: u64,
+    /// How often one of them waited, as far as that has an entry.
     waits: u64,
     /// How many questions the plugin answered.
     questions: u64,
@@ -156,11 +159,13 @@ fn tally_of(journals: &[Journal]) -> Option<Tally> {
     let mut tally = Tally {
         txns: txns.len(),
         handled: 0,
+        stored: 0,
         waits: 0,
         questions: plugin.counts().handled,
     };
     for txn in txns {
         tally.handled = tally.handled.wrapping_add(txn.counts().handled);
+        tally.stored = tally.stored.wrapping_add(handled_in(txn.entries()));
         tally.waits = tally.waits.wrapping_add(waits_of(txn.entries()));
     }
     Some(tally)
@@ -213,14 +218,16 @@ fn a_plugin_that_is_missed(rt: HostRuntime) -> Result<(), Fail> {
         let Some(busy) = tally_of(left.journals.as_slice()) else {
             return Err("the plugin has a journal")?;
         };
-        let waited = Tally {
-            txns: MOST_TXNS,
-            handled: calm.handled.wrapping_add(busy.waits),
-            waits: busy.waits,
-            questions: MOST_TXNS as u64,
+        assert_eq!(rt; busy.txns, MOST_TXNS);
+        assert_eq!(rt; busy.questions, MOST_TXNS as u64);
+        let Some(more) = busy.handled.checked_sub(calm.handled) else {
+            return Err("each transaction handles all of its events")?;
         };
-        assert_eq!(rt; busy, waited);
-        if busy.waits > 0 {
+        assert!(rt; busy.waits <= more);
+        if busy.stored == busy.handled {
+            assert_eq!(rt; busy.waits, more);
+        }
+        if more > 0 {
             return Ok(());
         }
     }
