@@ -18,6 +18,7 @@ mod StepLemmas
 mod TrailerLemmas
 mod TrimTwice
 pub mod FrameLemmas
+pub mod FrontBody
 pub mod OneBody
 pub mod OneRequest
 pub mod OneResponse

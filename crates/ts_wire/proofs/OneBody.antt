@@ -16,14 +16,14 @@ use Rattle.ts_wire.specs.Body.{line_feeds, IsShortLine, Chunk, IsChunk, print_ch
 -- ---- what follows the whole chunks, in the order in which it is read
 
 -- no chunk line is there
-LacksLine : List ℕ → BodyState → Type 0
+pub LacksLine : List ℕ → BodyState → Type 0
 LacksLine text Unfinished = HasNoChunkLine text × MayBecomeChunkLine text × (length text < line_limit)
 LacksLine text Ended = ⊥
 LacksLine text Bad = NeverHasChunkLine text ⊎ ((line_limit ≤ length text)
     × HasNoChunkLine (take line_limit text))
 
 -- the trailer section
-TrailerIs : List ℕ → BodyState → Type 0
+pub TrailerIs : List ℕ → BodyState → Type 0
 TrailerIs text Unfinished =
     HasNoSection text × MayBecomeSection text × (line_feeds text < trailer_lines)
     × (length text < trailer_limit)
@@ -35,21 +35,21 @@ TrailerIs text Bad =
     × LacksTrailer text)
 
 -- a chunk that is not whole: a front of its content, or all of it and then tail
-PartIs : ℕ → List ℕ → List ℕ → BodyState → Type 0
+pub PartIs : ℕ → List ℕ → List ℕ → BodyState → Type 0
 PartIs size bytes more Unfinished =
     ((length bytes < size) × (more ≡ bytes))
     ⊎ ((tail : List ℕ) × (length more ≡ size) × (bytes ≡ more ++ tail) × ((tail ≡ []) ⊎ (tail ≡ 13 ∷ [])))
 PartIs size bytes more Ended = ⊥
 PartIs size bytes more Bad = (tail : List ℕ) × (length more ≡ size) × (bytes ≡ more ++ tail) × BreaksCrlf tail
 
-data AfterLine (size total : ℕ) (rest more : List ℕ) (state : BodyState) : Type 0 where
+pub data AfterLine (size total : ℕ) (rest more : List ℕ) (state : BodyState) : Type 0 where
   over : body_limit < total + size → more ≡ [] → state ≡ Bad → AfterLine size total rest more state
   trailer : total + size ≤ body_limit → size ≡ 0 → more ≡ [] → TrailerIs rest state
       → AfterLine size total rest more state
   content : total + size ≤ body_limit → 0 < size → PartIs size rest more state
       → AfterLine size total rest more state
 
-data LastIs (total : ℕ) (tail more : List ℕ) (state : BodyState) : Type 0 where
+pub data LastIs (total : ℕ) (tail more : List ℕ) (state : BodyState) : Type 0 where
   lacks : more ≡ [] → LacksLine tail state → LastIs total tail more state
   has : (l : ChunkLine) (rest : List ℕ) → IsShortLine l → tail ≡ print_chunk_line l ++ rest
       → AfterLine (chunk_size l) total rest more state
@@ -58,7 +58,7 @@ data LastIs (total : ℕ) (tail more : List ℕ) (state : BodyState) : Type 0 wh
 -- ---- each part is one
 
 -- a line that is there is not lacking
-line_lacks : (tail rest : List ℕ) (l : ChunkLine) (s : BodyState) → IsShortLine l
+pub line_lacks : (tail rest : List ℕ) (l : ChunkLine) (s : BodyState) → IsShortLine l
     → tail ≡ print_chunk_line l ++ rest → LacksLine tail s → ⊥
 unfolding LacksLine
 line_lacks tail rest l Unfinished good is (none, may, short) = none l rest (good.line, is)
@@ -115,7 +115,7 @@ trailer_one text Bad Ended a b = absurd (trailer_whole text b a)
 trailer_one text Bad Bad a b = refl
 
 -- the content of a chunk that is not whole is a front of what follows the line
-part_front : (size : ℕ) (bytes more : List ℕ) (s : BodyState) → PartIs size bytes more s
+pub part_front : (size : ℕ) (bytes more : List ℕ) (s : BodyState) → PartIs size bytes more s
     → more ≡ take size bytes
 unfolding PartIs
 part_front size bytes more Unfinished (inl (short, is)) =
@@ -206,13 +206,13 @@ part_of_whole size bytes part rest more Bad len is (tail, whole, are, broken) =
     crlf_not_broken (inl a) = a refl
     crlf_not_broken (inr b) = b refl
 
-chunk_text : (c : Chunk) (rest : List ℕ) → print_chunk c ++ rest ≡ print_chunk_line c.line
+pub chunk_text : (c : Chunk) (rest : List ℕ) → print_chunk c ++ rest ≡ print_chunk_line c.line
     ++ (c.content ++ (crlf_bytes ++ rest))
 chunk_text c rest =
     append_assoc (print_chunk_line c.line) (c.content ++ crlf_bytes) rest
     ∙ ap (λ l. print_chunk_line c.line ++ l) (append_assoc c.content crlf_bytes rest)
 
-chunk_not_last : (c : Chunk) (total : ℕ) (rest tail more : List ℕ) (s : BodyState) → IsChunk c
+pub chunk_not_last : (c : Chunk) (total : ℕ) (rest tail more : List ℕ) (s : BodyState) → IsChunk c
     → total + length c.content ≤ body_limit
     → tail ≡ print_chunk c ++ rest → LastIs total tail more s → ⊥
 chunk_not_last c total rest tail more s good fits is (lacks none a) =
@@ -236,7 +236,7 @@ chunk_not_last c total rest tail more s good fits is (has l after line text last
 -- ---- the whole
 
 -- two chunks that the same bytes begin with are the same, and so is what follows
-chunk_one : (c d : Chunk) (x y : List ℕ) → IsChunk c → IsChunk d → print_chunk c ++ x ≡ print_chunk d ++ y
+pub chunk_one : (c d : Chunk) (x y : List ℕ) → IsChunk c → IsChunk d → print_chunk c ++ x ≡ print_chunk d ++ y
     → (c.content ≡ d.content) × (x ≡ y)
 chunk_one c d x y good good' is =
     let lines = chunk_line_unique (print_chunk c ++ x) c.line d.line (c.content ++ (crlf_bytes ++ x))
@@ -285,11 +285,11 @@ chunks_one (c ∷ cs) (d ∷ ds) total x y m n s t good good' is fits fits' last
     )
 
 -- a body in chunks, as whole chunks and what follows them
-record Cut (bytes body : List ℕ) (state : BodyState) : Type 0 where
-  tail : List ℕ
-  more : List ℕ
-  after : AfterChunks bytes body tail more
-  last : LastIs (length (contents after.chunks)) tail more state
+pub record Cut (bytes body : List ℕ) (state : BodyState) : Type 0 where
+  pub tail : List ℕ
+  pub more : List ℕ
+  pub after : AfterChunks bytes body tail more
+  pub last : LastIs (length (contents after.chunks)) tail more state
 
 cut_unfinished : (bytes body : List ℕ) → IsUnfinishedChunked bytes body → Cut bytes body Unfinished
 unfolding LacksLine PartIs TrailerIs
@@ -408,7 +408,7 @@ cut_bad bytes body (long_trailer text section full none) = record {
       (omega (arith, section.zero, section.after.fits)) section.zero refl (inr (full, none)));
 }
 
-cut : (bytes body : List ℕ) (state : BodyState) → ChunkedBody bytes body state → Cut bytes body state
+pub cut : (bytes body : List ℕ) (state : BodyState) → ChunkedBody bytes body state → Cut bytes body state
 cut bytes body Unfinished is = cut_unfinished bytes body is
 cut bytes body Ended is = cut_ended bytes body is
 cut bytes body Bad is = cut_bad bytes body is

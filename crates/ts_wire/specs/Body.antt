@@ -143,6 +143,13 @@ HasOneBody =
     (framing : Framing) (bytes a b : List ℕ) (s t : BodyState)
     → BodyOf framing bytes a s → BodyOf framing bytes b t → (a ≡ b) × (s ≡ t)
 
+-- whatever bytes come yet, the body goes on with the body so far
+abbrev pub BodyGrows : Type 0
+BodyGrows =
+    (framing : Framing) (front more read body : List ℕ) (s t : BodyState)
+    → BodyOf framing front read s → BodyOf framing (front ++ more) body t
+    → (yet : List ℕ) × (body ≡ read ++ yet)
+
 -- the bytes have ended before the body, which does not end with them
 abbrev pub IsCutShort : Framing → List ℕ → List ℕ → Type 0
 IsCutShort framing bytes body = BodyOf framing bytes body Unfinished × (framing ≢ UntilClose)

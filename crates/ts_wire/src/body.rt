@@ -1,7 +1,7 @@
 //! Reads the body of a message, however its bytes are cut.
 ghost use Rattle.std.specs.Prelude.{◌≡◌, ◌≢◌, ◌≤◌, ◌↔◌, ℕ, List, [], take, slice_range, IfOk};
 ghost use Rattle.ts_wire.specs.declared.body.BodyState.{BodyState};
-ghost use Rattle.ts_wire.specs.Body.{IsCutShort, HasOneBody};
+ghost use Rattle.ts_wire.specs.Body.{IsCutShort, HasOneBody, BodyGrows};
 ghost use Rattle.ts_wire.specs.Place.{room_of, state_of, IsSoundPhase, IsFed, TakesBytes, GoesOn, GivesBody};
 
 use crate::framing::Framing;
@@ -137,6 +137,9 @@ impl BodyReader {
 
         // The law that makes the body of some bytes one.
         ensures one_body { HasOneBody }
+
+        // The law that the body of a front of the bytes is a front of their body.
+        ensures grows { BodyGrows }
     {
         match self.phase {
             BodyPhase::Ended => BodyEnd::Ended,
