@@ -9,6 +9,7 @@ use Rattle.ts_config.specs.declared.setup.ConfigKind.TheVariants as k
 use Rattle.ts_config.specs.declared.setup.LineMeaning.TheVariants.{Empty, Transform, Plugin}
 use Rattle.ts_config.specs.declared.table.PluginName.{PluginName}
 use Rattle.ts_config.specs.declared.table.PluginName.TheVariants as n
+use Rattle.ts_config.specs.Bytes.{most_limit}
 use Rattle.ts_config.specs.Numerals.{byte_of, number_of}
 use Rattle.ts_config.specs.Setup.{untexted}
 use Rattle.ts_config.specs.Table.{name_of, transform_of, plugin_of, fitting, named_entry, line_entry}
@@ -28,6 +29,8 @@ Asks (t.Drop b) name words =
     (name ≡ n.Drop) × ((byte : List ℕ) × (words ≡ byte ∷ []) × (byte_of byte ≡ Some b))
 Asks (t.Delay m) name words =
     (name ≡ n.Delay) × ((ms : List ℕ) × (words ≡ ms ∷ []) × (number_of 60000 ms ≡ Some m))
+Asks (t.Limit m) name words =
+    (name ≡ n.Limit) × ((most : List ℕ) × (words ≡ most ∷ []) × (number_of most_limit most ≡ Some m))
 
 some_same : {A : Type 0} {x y : A} → Some x ≡ Some y → x ≡ y
 some_same e = cc
@@ -66,6 +69,9 @@ asked n.Drop (byte ∷ []) line is =
 asked n.Delay (ms ∷ []) line is =
     let (m, first, whole) = mapped (λ y. t.Delay y) (number_of 60000 ms) line is in
     subst (λ l. Asks l n.Delay (ms ∷ [])) whole (refl, (ms, refl, first))
+asked n.Limit (most ∷ []) line is =
+    let (m, first, whole) = mapped (λ y. t.Limit y) (number_of most_limit most) line is in
+    subst (λ l. Asks l n.Limit (most ∷ [])) whole (refl, (most, refl, first))
 asked name words line is = absurd (let wrong : None ≡ Some line = is in cc)
 
 -- a line that means a transform has a name, and the words that ask for it
@@ -141,3 +147,4 @@ untexted-asked (t.Prepend text) name words asks = refl
 untexted-asked (t.Map a b) name words asks = refl
 untexted-asked (t.Drop b) name words asks = refl
 untexted-asked (t.Delay m) name words asks = refl
+untexted-asked (t.Limit m) name words asks = refl

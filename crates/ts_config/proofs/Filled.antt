@@ -22,6 +22,7 @@ named (t.Prepend text) is = is
 named (t.Map a b) is = is
 named (t.Drop b) is = is
 named (t.Delay m) is = is
+named (t.Limit m) is = is
 
 named_back : (l : TransformLine) → HasFileName (untexted l) → HasFileName l
 named_back t.Null is = is
@@ -31,6 +32,7 @@ named_back (t.Prepend text) is = is
 named_back (t.Map a b) is = is
 named_back (t.Drop b) is = is
 named_back (t.Delay m) is = is
+named_back (t.Limit m) is = is
 
 all_named : (ls : List TransformLine) → AllByRecursion HasFileName ls
     → AllByRecursion HasFileName (map untexted ls)

@@ -2,6 +2,7 @@ pub mod Again
 pub mod Asked
 pub mod Cuts
 pub mod Digits
+pub mod Early
 pub mod Filled
 pub mod FineWords
 pub mod Fronts

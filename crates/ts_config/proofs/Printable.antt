@@ -16,6 +16,7 @@ use Rattle.ts_config.specs.declared.setup.TransformLine.TheVariants as t
 use Rattle.ts_config.specs.declared.setup.LineMeaning.{LineMeaning}
 use Rattle.ts_config.specs.declared.setup.LineMeaning.TheVariants.{Empty, Transform, Plugin}
 use Rattle.ts_config.specs.declared.table.PluginName.{PluginName}
+use Rattle.ts_config.specs.Bytes.{most_limit}
 use Rattle.ts_config.specs.Lines.{config_lines}
 use Rattle.ts_config.specs.Numerals.{hex_value, byte_of, number_of, has_no_leading_zero}
 use Rattle.ts_config.specs.Setup.{ConfigLines, untexted, HasFileName}
@@ -36,6 +37,7 @@ IsPrintable (t.Prepend text) = (length text ≤ 16384) × IsFine text
 IsPrintable (t.Map a b) = (a < 256) × (b < 256)
 IsPrintable (t.Drop b) = b < 256
 IsPrintable (t.Delay m) = m ≤ 60000
+IsPrintable (t.Limit m) = m ≤ most_limit
 
 -- a text of one byte is ASCII
 one_byte : (b : ℕ) → IsUtf8 (b ∷ []) → b < 256
@@ -96,6 +98,8 @@ asked_printable (t.Drop b) name words (named, (byte, are, first)) fine =
     let one : IsFine byte = each.0 in
     byte_small byte b one.text.utf8 first
 asked_printable (t.Delay m) name words (named, (ms, are, first)) fine = number_small 60000 ms m first
+asked_printable (t.Limit m) name words (named, (most, are, first)) fine =
+    number_small most_limit most m first
 
 line_printable : (line : List ℕ) (l : TransformLine) → Means line (Ok (Transform l)) → IsPrintable l
 line_printable line l means =
@@ -135,6 +139,7 @@ untexted_printable (t.Prepend text) is = is
 untexted_printable (t.Map a b) is = is
 untexted_printable (t.Drop b) is = is
 untexted_printable (t.Delay m) is = is
+untexted_printable (t.Limit m) is = is
 
 all_untexted : (ls : List TransformLine) → AllByRecursion IsPrintable (map untexted ls)
     → AllByRecursion IsPrintable ls
@@ -161,6 +166,7 @@ printable_named (t.Prepend text) is = tt
 printable_named (t.Map a b) is = tt
 printable_named (t.Drop b) is = tt
 printable_named (t.Delay m) is = tt
+printable_named (t.Limit m) is = tt
 
 all_named : (ls : List TransformLine) → AllByRecursion IsPrintable ls → AllByRecursion HasFileName ls
 all_named [] are = tt

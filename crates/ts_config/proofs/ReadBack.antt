@@ -18,6 +18,7 @@ use Rattle.ts_config.specs.declared.setup.LineMeaning.{LineMeaning}
 use Rattle.ts_config.specs.declared.setup.LineMeaning.TheVariants.{Transform, Plugin}
 use Rattle.ts_config.specs.declared.table.PluginName.{PluginName}
 use Rattle.ts_config.specs.declared.table.PluginName.TheVariants as n
+use Rattle.ts_config.specs.Bytes.{most_limit}
 use Rattle.ts_config.specs.Numerals.{byte_of, byte_word, hex_digit}
 use Rattle.ts_config.specs.Lines.{config_lines}
 use Rattle.ts_config.specs.Printing.{spelled_words, line_name, line_arguments, plugin_name, printed_line, printed_plugin, printed}
@@ -113,6 +114,7 @@ name_plain n.Prepend = (refl, none_ends (spelling n.Prepend) refl)
 name_plain n.Map = (refl, none_ends (spelling n.Map) refl)
 name_plain n.Drop = (refl, none_ends (spelling n.Drop) refl)
 name_plain n.Delay = (refl, none_ends (spelling n.Delay) refl)
+name_plain n.Limit = (refl, none_ends (spelling n.Limit) refl)
 name_plain n.Deny = (refl, none_ends (spelling n.Deny) refl)
 name_plain n.Header = (refl, none_ends (spelling n.Header) refl)
 
@@ -124,6 +126,7 @@ name_text n.Prepend = plain_text (spelling n.Prepend) refl
 name_text n.Map = plain_text (spelling n.Map) refl
 name_text n.Drop = plain_text (spelling n.Drop) refl
 name_text n.Delay = plain_text (spelling n.Delay) refl
+name_text n.Limit = plain_text (spelling n.Limit) refl
 name_text n.Deny = plain_text (spelling n.Deny) refl
 name_text n.Header = plain_text (spelling n.Header) refl
 
@@ -135,6 +138,7 @@ name_again n.Prepend = refl
 name_again n.Map = refl
 name_again n.Drop = refl
 name_again n.Delay = refl
+name_again n.Limit = refl
 name_again n.Deny = refl
 name_again n.Header = refl
 
@@ -147,6 +151,7 @@ arguments_fine (t.Prepend text) is = (is.1, tt)
 arguments_fine (t.Map a b) is = (fine_byte a is.0, (fine_byte b is.1, tt))
 arguments_fine (t.Drop b) is = (fine_byte b is, tt)
 arguments_fine (t.Delay m) is = (fine_number m (omega (arith, is)), tt)
+arguments_fine (t.Limit m) is = (fine_number m (omega (arith, is)), tt)
 
 file_again : (file : List ℕ) → 0 < length file → transform_of n.Append (file ∷ []) ≡ Some (t.Append file [])
 file_again [] some = absurd (omega arith)
@@ -169,6 +174,8 @@ transform_again (t.Map a b) is =
     ∙ ap (option_map (λ y. t.Map a y)) (byte_again b is.1)
 transform_again (t.Drop b) is = ap (option_map (λ y. t.Drop y)) (byte_again b is)
 transform_again (t.Delay m) is = ap (option_map (λ y. t.Delay y)) (number_again 60000 m is (omega arith))
+transform_again (t.Limit m) is =
+    ap (option_map (λ y. t.Limit y)) (number_again most_limit m is (omega arith))
 
 -- a name and words as they are printed, but for the line feed
 abbrev words_line : PluginName → List (List ℕ) → List ℕ

@@ -53,3 +53,7 @@ most_text = 16384
 -- the most milliseconds of a delay line
 abbrev pub most_delay : ℕ
 most_delay = 60000
+
+-- the most bytes that a limit line can pass on
+abbrev pub most_limit : ℕ
+most_limit = 9223372036854775807

@@ -34,6 +34,7 @@ line_name (t.Prepend text) = n.Prepend
 line_name (t.Map from to) = n.Map
 line_name (t.Drop byte) = n.Drop
 line_name (t.Delay ms) = n.Delay
+line_name (t.Limit most) = n.Limit
 
 -- and that of a hook plugin
 abbrev pub plugin_name : PluginLine → PluginName
@@ -49,6 +50,7 @@ line_arguments (t.Prepend text) = text ∷ []
 line_arguments (t.Map from to) = byte_word from ∷ byte_word to ∷ []
 line_arguments (t.Drop byte) = byte_word byte ∷ []
 line_arguments (t.Delay ms) = decimal ms ∷ []
+line_arguments (t.Limit most) = decimal most ∷ []
 
 -- the words, each behind one space
 abbrev pub spelled_words : List (List ℕ) → List ℕ

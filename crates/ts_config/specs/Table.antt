@@ -11,7 +11,7 @@ use Rattle.ts_config.specs.declared.setup.LineMeaning.{LineMeaning}
 use Rattle.ts_config.specs.declared.setup.LineMeaning.TheVariants.{Empty, Transform, Plugin}
 use Rattle.ts_config.specs.declared.table.PluginName.{PluginName}
 use Rattle.ts_config.specs.declared.table.PluginName.TheVariants as n
-use Rattle.ts_config.specs.Bytes.{most_delay, most_text}
+use Rattle.ts_config.specs.Bytes.{most_delay, most_limit, most_text}
 use Rattle.ts_config.specs.Numerals.{byte_of, number_of}
 use Rattle.ts_config.specs.Rules.{deny_of, header_of}
 
@@ -24,13 +24,14 @@ spelling n.Prepend = codes "prepend.so"
 spelling n.Map = codes "map.so"
 spelling n.Drop = codes "drop.so"
 spelling n.Delay = codes "delay.so"
+spelling n.Limit = codes "limit.so"
 spelling n.Deny = codes "denylist.so"
 spelling n.Header = codes "header.so"
 
 -- all plugins: those of transform lines, and those that are called at hooks
 abbrev pub all_names : List PluginName
 all_names =
-    n.Null ∷ n.Append ∷ n.Bnull ∷ n.Prepend ∷ n.Map ∷ n.Drop ∷ n.Delay ∷ n.Deny ∷ n.Header ∷ []
+    n.Null ∷ n.Append ∷ n.Bnull ∷ n.Prepend ∷ n.Map ∷ n.Drop ∷ n.Delay ∷ n.Limit ∷ n.Deny ∷ n.Header ∷ []
 
 -- the plugin that a word names
 abbrev pub name_of : List ℕ → Option PluginName
@@ -46,6 +47,7 @@ transform_of n.Map (from ∷ to ∷ []) =
     option_and_then (λ a. option_map (λ b. t.Map a b) (byte_of to)) (byte_of from)
 transform_of n.Drop (byte ∷ []) = option_map (λ b. t.Drop b) (byte_of byte)
 transform_of n.Delay (ms ∷ []) = option_map (λ m. t.Delay m) (number_of most_delay ms)
+transform_of n.Limit (most ∷ []) = option_map (λ m. t.Limit m) (number_of most_limit most)
 transform_of name others = None
 
 -- the hook plugin that a name and the words after it ask for, if they fit

@@ -15,7 +15,7 @@ mod table;
 mod words;
 
 pub use fields::{PluginLine, Rule, Side, Sites};
-pub use laws::one_reading;
+pub use laws::{early_stays, one_reading, tells_so_far};
 pub use print::print_config;
 pub use read::read_config;
 pub use setup::{ConfigFault, ConfigKind, ConfigRefusal, Setup, TransformLine};

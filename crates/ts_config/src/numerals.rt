@@ -1,5 +1,5 @@
 //! Words that stand for a byte or for a number.
-ghost use Rattle.std.specs.Prelude.{◌≡◌, ℕ, ◌≤◌, ◌<◌, Option, Bool};
+ghost use Rattle.std.specs.Prelude.{◌≡◌, ℕ, ◌≤◌, ◌<◌, Option, IfSome, Bool};
 ghost use Rattle.std.specs.Str.{all_ascii_digits};
 ghost use Rattle.ts_config.specs.Numerals.{hex_value, hex_digit, byte_of, has_no_leading_zero, number_of};
 
@@ -48,21 +48,22 @@ fn has_no_leading_zero(word: &[u8]) -> bool
 }
 
 /// The number that a word stands for in plain decimal, if it is at most `most`.
-pub fn number_of(word: &[u8], most: u32) -> Option<u32>
-    ensures { result ≡ number_of most word.now }
+pub fn number_of(word: &[u8], most: u64) -> Option<u64>
+    ensures number { result ≡ number_of most word.now }
+    ensures within { IfSome result (λ n. n ≤ most) }
 {
     if !has_no_leading_zero(word) {
         return None;
     }
-    let mut value: u64 = 0;
+    let mut value: u128 = 0;
     for digit in word {
         if !digit.is_ascii_digit() {
             return None;
         }
-        value = 10 * value + u64::from(*digit - b'0');
-        if value > u64::from(most) {
+        value = 10 * value + u128::from(*digit - b'0');
+        if value > u128::from(most) {
             return None;
         }
     }
-    Some(value as u32)
+    Some(value as u64)
 }

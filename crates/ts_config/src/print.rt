@@ -68,6 +68,7 @@ fn line_name(line: &TransformLine) -> PluginName
         TransformLine::Map { .. } => PluginName::Map,
         TransformLine::Drop { .. } => PluginName::Drop,
         TransformLine::Delay { .. } => PluginName::Delay,
+        TransformLine::Limit { .. } => PluginName::Limit,
     }
 }
 
@@ -87,6 +88,10 @@ fn print_arguments(alloc: Global, out: &mut Vec<u8>, line: &TransformLine) -> Re
         TransformLine::Drop { byte } => print_byte(out, *byte),
         TransformLine::Delay { ms } => {
             let number = ms.to_string(alloc)?;
+            print_word(out, number.as_bytes())
+        }
+        TransformLine::Limit { most } => {
+            let number = most.to_string(alloc)?;
             print_word(out, number.as_bytes())
         }
     }

@@ -24,6 +24,9 @@ pub enum TransformLine {
     Drop { byte: u8 },
     /// The body as it is, with a pause of `ms` milliseconds, at most 60,000, between two events of its stage.
     Delay { ms: u32 },
+    /// The first `most` bytes of the body, at most 9,223,372,036,854,775,807. Then it is done, though the body
+    /// may go on.
+    Limit { most: u64 },
 }
 
 /// What a line of the configuration means.

@@ -22,11 +22,12 @@ pub enum PluginName {
     Map,
     Drop,
     Delay,
+    Limit,
     Deny,
     Header,
 }
 
-const ALL_NAMES: [PluginName; 9] = [
+const ALL_NAMES: [PluginName; 10] = [
     PluginName::Null,
     PluginName::Append,
     PluginName::Bnull,
@@ -34,6 +35,7 @@ const ALL_NAMES: [PluginName; 9] = [
     PluginName::Map,
     PluginName::Drop,
     PluginName::Delay,
+    PluginName::Limit,
     PluginName::Deny,
     PluginName::Header,
 ];
@@ -49,7 +51,10 @@ fn all_names() -> &'static [PluginName]
 const MOST_TEXT: usize = 16_384;
 
 // The most milliseconds of a delay line.
-const MOST_DELAY: u32 = 60_000;
+const MOST_DELAY: u64 = 60_000;
+
+// The most bytes that a limit line can pass on.
+const MOST_LIMIT: u64 = 9_223_372_036_854_775_807;
 
 impl PluginName {
     /// The first word of its lines.
@@ -64,6 +69,7 @@ impl PluginName {
             PluginName::Map => b"map.so",
             PluginName::Drop => b"drop.so",
             PluginName::Delay => b"delay.so",
+            PluginName::Limit => b"limit.so",
             PluginName::Deny => b"denylist.so",
             PluginName::Header => b"header.so",
         }
@@ -152,7 +158,19 @@ fn delay_of(words: &[&[u8]]) -> Option<TransformLine>
     match words {
         [ms] => {
             let ms = number_of(ms, MOST_DELAY)?;
-            Some(TransformLine::Delay { ms })
+            Some(TransformLine::Delay { ms: ms as u32 })
+        }
+        _ => None,
+    }
+}
+
+fn limit_of(words: &[&[u8]]) -> Option<TransformLine>
+    ensures { result ≡ transform_of n.Limit (map (λ w. w.now) words.now) }
+{
+    match words {
+        [most] => {
+            let most = number_of(most, MOST_LIMIT)?;
+            Some(TransformLine::Limit { most })
         }
         _ => None,
     }
@@ -174,6 +192,7 @@ fn transform_of(
         PluginName::Map => Ok(map_of(words)),
         PluginName::Drop => Ok(drop_of(words)),
         PluginName::Delay => Ok(delay_of(words)),
+        PluginName::Limit => Ok(limit_of(words)),
         PluginName::Deny | PluginName::Header => Ok(None),
     }
 }
@@ -195,7 +214,8 @@ fn plugin_of(
         | PluginName::Prepend
         | PluginName::Map
         | PluginName::Drop
-        | PluginName::Delay => Ok(None),
+        | PluginName::Delay
+        | PluginName::Limit => Ok(None),
     }
 }
 

@@ -3,8 +3,8 @@ use Rattle.std.proofs.Common.{ℕ, List, ◌+◌, ◌-◌, ◌*◌, drop, get_or
 use Rattle.ts_config.proofs.Digits.{digit_step, value_grows, too_large}
 use Rattle.ts_config.proofs.numerals.number_of.Goals as goal
 
-pub returns-then-value-from : goal.returns-then-value-from
-returns-then-value-from c =
+pub returns-then-value-from-clause-number : goal.returns-then-value-from-clause-number
+returns-then-value-from-clause-number c =
     let word : List ℕ = c.args.word.now in
     let i : ℕ = c.loop-digit.digit-index in
     let v : ℕ = c.loop-digit.value in
