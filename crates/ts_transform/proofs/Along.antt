@@ -195,10 +195,10 @@ sure_stage rest pause role event v w a b not_writer not_reader acts writer reade
   where
     still : Acts rest pause at event v.driven w.driven a b
         → HasNothingToDo event v.driven.chain v.driven.table.items at → w.driven.chain ≡ v.driven.chain
-    still h (inl ended) = (h.closed ended).2
-    still h (inr (inl complete)) = h.idle (ap works_at complete)
-    still h (inr (inr (inl (e, none)))) = h.idle (ap works_at e)
-    still h (inr (inr (inr (works, rests)))) = h.still rests
+    still h (nobody, inl ended) = (h.closed ended).2
+    still h (nobody, inr (inl complete)) = h.idle (ap works_at complete)
+    still h (nobody, inr (inr (inl (e, none)))) = h.idle (ap works_at e)
+    still h (nobody, inr (inr (inr (works, rests)))) = h.still rests
 
 -- The ends were roused behind a handler: where nothing had to be done, nothing is.
 pub step_sure : {I K P : Type 0} (u v w : LinkWorld I K P) (m b : Context)

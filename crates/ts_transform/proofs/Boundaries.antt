@@ -2,6 +2,7 @@
 use Rattle.std.proofs.Common.{◌≡◌, ℕ, zero, suc, ◌-◌, ◌<◌, List, [], ◌∷◌, ◌++◌, Bool, true, false, length, Option, None, is_none, get_or, Some, slice_get, arith, refl, sym, ap, ◌∙◌}
 use Rattle.std.proofs.lemmas.List.{append-nil}
 use Rattle.std.proofs.lemmas.Option.{slice_get_within, get_or_from_slice_get}
+use Rattle.ts_transform.specs.declared.pump.Part.{Part}
 use Rattle.ts_transform.specs.declared.pump.Stage.{Stage}
 use Rattle.ts_transform.specs.Stage.{passed, rest_of, has_ended}
 use Rattle.ts_transform.specs.Flow.{flow_from, wait_at, last_wait, last_ended}
@@ -53,7 +54,7 @@ last_ended-got given ss d got =
     ∙ ap (λ s. has_ended s) (get_or_from_slice_get ss (length ss - 1) d d (sym got))
 
 -- a stage that has ended writes nothing
-pub rest_of-ended : {P : Type 0} (rest : P → List ℕ → List ℕ) (part : Option P) (v : List ℕ)
+pub rest_of-ended : {P : Type 0} (rest : P → List ℕ → List ℕ) (part : Option (Part P)) (v : List ℕ)
     → is_none part ≡ true → rest_of rest part v ≡ []
 rest_of-ended rest None v ended = refl
 rest_of-ended rest (Some part) v ended = absurd (let wrong : false ≡ true = ended in cc)

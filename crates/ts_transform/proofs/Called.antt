@@ -18,7 +18,7 @@ roused_same (t ∷ ts) (u ∷ us) zero same roused = subst IsRousedIf (let both 
     roused
 roused_same (t ∷ ts) (u ∷ us) (suc j) same roused = roused_same ts us j same roused
 
-slot_changed : (f : Option StageContinuation → Option StageContinuation)
+pub slot_changed : (f : Option StageContinuation → Option StageContinuation)
     (ts : List (Option StageContinuation)) (at j : ℕ) → j ≢ at
     → slice_get (changed f ts at) j ≡ slice_get ts j
 slot_changed f [] at j other = refl

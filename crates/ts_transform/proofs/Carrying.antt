@@ -1,5 +1,5 @@
 -- What a step of a chain between two links moves.
-use Rattle.std.proofs.Common.{◌≡◌, ◌≤◌, ◌<◌, ◌+◌, ◌++◌, ◌⊎◌, inl, inr, ℕ, zero, suc, List, [], ◌∷◌, Bool, true, false, is_none, Option, length, take, drop, map, arith, refl, sym, ap, subst, ◌∙◌, append_assoc, append-nil, length-append, length-drop}
+use Rattle.std.proofs.Common.{◌≡◌, ◌≤◌, ◌<◌, ◌+◌, ◌++◌, ◌⊎◌, inl, inr, ℕ, zero, suc, List, [], ◌∷◌, Bool, true, false, is_none, not, Option, None, Some, length, take, drop, map, arith, refl, sym, ap, subst, ◌∙◌, append_assoc, append-nil, length-append, length-drop}
 use Rattle.std.specs.Bool.{OnTrue}
 use Rattle.std.proofs.lemmas.List.{take-take}
 use Rattle.ts_link.specs.Counts.{Counted, Rose}
@@ -12,16 +12,17 @@ use Rattle.ts_vconn.specs.declared.moves.Pulled.TheVariants as U
 use Rattle.ts_transform.specs.declared.pump.Pumped.{Pumped}
 use Rattle.ts_transform.specs.declared.pump.Pumped.TheVariants.{Moved, Ended, Blocked, Idle}
 use Rattle.ts_transform.specs.declared.pump.Stage.{Stage}
-use Rattle.ts_transform.specs.Stage.{MOST_WAITING, AnswersIf, AnswersWork, Steps, has_ended, has_work}
-use Rattle.ts_transform.specs.Flow.{AnswersAt, ChainState, EndsInOrder, IsFinished, OnlyFirstWorks, PumpsOnce, StepsAt, Takes, TakesAway, aborted, client_wait, closed, flow, fresh_stage, flow_from}
+use Rattle.ts_transform.specs.declared.pump.Part.{Part}
+use Rattle.ts_transform.specs.declared.pump.Part.TheVariants.{Works, Done}
+use Rattle.ts_transform.specs.Stage.{MOST_WAITING, Answers, AnswersIf, AnswersWork, Steps, cuts, has_ended, has_work, is_done, needs_no_more}
+use Rattle.ts_transform.specs.Flow.{AnswersAt, ChainState, EndsInOrder, IsBefore, IsFinished, MustRead, PumpsOnce, StepsAt, Takes, TakesAway, aborted, client_wait, closed, done_at, first_wants, flow, fresh_stage, flow_from, wants}
 use Rattle.ts_transform.specs.Acting.{StillGives}
 use Rattle.ts_vconn.specs.MoveAnswers.{Came}
 use Rattle.ts_vconn.specs.Moves.{PullsOn}
 use Rattle.ts_vconn.proofs.Bounds.{came_few}
-use Rattle.ts_transform.specs.Carrying.{Carries, CarriesOn, HasWritten, MovesOn}
+use Rattle.ts_transform.specs.Carrying.{Carries, CarriesOn, GetsNoMore, HasWritten, MovesOn, TookEarly}
 use Rattle.ts_transform.proofs.Acting.{nothing_more}
 use Rattle.ts_transform.proofs.Flowing.{flow-finished}
-use Rattle.ts_transform.proofs.Starting.{fresh-first}
 
 -- nothing is carried
 carries_none : {P : Type 0} (rest : P → List ℕ → List ℕ) (it ot : Bool) (i o p : Look) (c : ChainState P)
@@ -33,19 +34,22 @@ carries_none rest it ot i o p c waits = record {
   taken = waits;
   flow = λ z none. refl;
   closed = λ given. (refl, given);
+  early = λ none. (refl, none);
 }
 
--- a chain that is made is in order, and only its first stage may have work
-pub order_fresh : {P : Type 0} (up : Bool) (ps : List P) → EndsInOrder up (map fresh_stage ps)
-order_fresh up [] = tt
-order_fresh up (p ∷ ps) = (λ ended. absurd (let wrong : false ≡ true = ended in cc), order_fresh false ps)
+-- a chain that is made is in order
+pub order_fresh : {P : Type 0} (soon : P → List ℕ → Option (List ℕ)) (pause : P → ℕ) (up : Bool)
+    (ps : List P) → EndsInOrder up (map (fresh_stage soon pause) ps)
+order_fresh soon pause up [] = tt
+order_fresh soon pause up (p ∷ ps) =
+    (λ ended. absurd (let wrong : false ≡ true = ended in cc), order_fresh soon pause false ps)
 
-pub made_fresh : {P : Type 0} (ps : List P) (c : ChainState P)
-    → c ≡ record { first = []; stages = map fresh_stage ps; given = false }
-    → OnlyFirstWorks c × (length c.first < MOST_WAITING + MOST_PULLED) × EndsInOrder c.given c.stages
-made_fresh {P} ps c is = subst (λ x. OnlyFirstWorks {P = P} x × (length x.first < MOST_WAITING + MOST_PULLED)
-    × EndsInOrder x.given x.stages) (sym is)
-    (λ j work. fresh-first false [] ps j work, omega arith, order_fresh false ps)
+pub made_fresh : {P : Type 0} (soon : P → List ℕ → Option (List ℕ)) (pause : P → ℕ) (ps : List P)
+    (c : ChainState P)
+    → c ≡ record { first = []; stages = map (fresh_stage soon pause) ps; given = false }
+    → (length c.first < MOST_WAITING + MOST_PULLED) × EndsInOrder true c.stages
+made_fresh {P} soon pause ps c is = subst (λ x. (length x.first < MOST_WAITING + MOST_PULLED)
+    × EndsInOrder {P = P} true x.stages) (sym is) (omega arith, order_fresh soon pause true ps)
 
 -- nothing is moved, though the output may have made its caller wait
 pub moves_wait : {P : Type 0} (rest : P → List ℕ → List ℕ) (it ot : Bool) (i o p : Look) (c : ChainState P)
@@ -74,10 +78,14 @@ pulled_none it i j before after answer most is h =
     let none : h.more ≡ [] = subst (λ a. Came a most h.more) is h.pulls.came in
     h.grows ∙ ap (λ l. before ++ l) none ∙ append-nil before
 
--- where more may come no stage has ended
-pub order_any : {P : Type 0} (b : Bool) (ss : List (Stage P)) → EndsInOrder false ss → EndsInOrder b ss
-order_any b [] h = tt
-order_any b (s ∷ ss) (here, others) = (λ ended. absurd (let wrong : false ≡ true = here ended in cc), others)
+-- a chain must be read on that is as it was
+pub must_still : {P : Type 0} (c d : ChainState P) → d.given ≡ c.given → d.stages ≡ c.stages
+    → d.first ≡ c.first → MustRead c → MustRead d
+must_still c d given stages first (opened, more, short) = (
+  given ∙ opened,
+  ap (λ b. first_wants b d.stages) given ∙ ap (first_wants c.given) stages ∙ more,
+  subst (λ l. length l < MOST_WAITING) (sym first) short,
+)
 
 -- a count of faults never falls
 pub counted_grows : (b : Bool) (m n : ℕ) → Counted b m n → m ≤ n
@@ -87,9 +95,8 @@ counted_grows false m n h = omega (arith, h)
 -- one read brought some bytes, or the end
 pub moves_pull : {P : Type 0} (rest : P → List ℕ → List ℕ) (it ot : Bool) (i j o : Look) (c d : ChainState P)
     (answer : Pulled) (was : Bool) → PullsOn it i j c.first d.first answer MOST_PULLED → d.stages ≡ c.stages
-    → c.given ≡ false → length c.first < MOST_WAITING → (d.given ≡ true → it ≡ true → j.left ≡ [])
-    → MovesOn rest it ot i j o o c d was was ⊥
-moves_pull {P} rest it ot i j o c d answer was h stages opened room ends = record {
+    → MustRead c → (d.given ≡ true → it ≡ true → j.left ≡ []) → MovesOn rest it ot i j o o c d was was ⊥
+moves_pull {P} rest it ot i j o c d answer was h stages must ends = record {
   counts = (counted_grows _ i.faults j.faults h.pulls.calls.faults, omega arith);
   carries = λ goes. record {
     gave = h.more;
@@ -97,18 +104,22 @@ moves_pull {P} rest it ot i j o c d answer was h stages opened room ends = recor
     given = λ tells. (h.pulls.told tells).given;
     taken = λ tells. sym (append-nil o.taken);
     flow = λ z none. flows z;
-    closed = λ given. absurd (let wrong : false ≡ true = sym opened ∙ given in cc);
+    closed = λ given. absurd (no_more (inl given));
+    early = λ none. absurd (no_more (inr none));
   };
   aborts = λ goes stops. absurd (let wrong : false ≡ true = sym goes ∙ stops in cc);
   stays = λ stopped. stopped;
-  ends = λ goes was_open given. ends given;
-  still = λ goes given. absurd (let wrong : false ≡ true = sym opened ∙ given in cc);
+  ends = λ goes opened given. ends given;
+  still = λ goes none. absurd (no_more none);
   bounded = λ few. let l : length d.first ≡ length c.first + length h.more = ap length h.grows ∙ length-append
-      c.first h.more in omega (arith, l, room, came_few answer MOST_PULLED h.more h.pulls.came);
-  ordered = λ ordered. subst (EndsInOrder d.given) (sym stages)
-      (order_any d.given c.stages (subst (λ b. EndsInOrder b c.stages) opened ordered));
+      c.first h.more in omega (arith, l, must.2, came_few answer MOST_PULLED h.more h.pulls.came);
+  ordered = subst (EndsInOrder true) (sym stages);
 }
   where
+    no_more : GetsNoMore c → ⊥
+    no_more (inl given) = let wrong : false ≡ true = sym must.0 ∙ given in cc
+    no_more (inr none) = let wrong : true ≡ false = sym must.1 ∙ none in cc
+
     flows : (z : List ℕ) → flow rest c (h.more ++ z) ≡ flow rest d z
     flows z =
         ap (flow_from rest c.stages) (sym (append_assoc c.first h.more z)) ∙ ap
@@ -143,7 +154,7 @@ moves_aborted rest it ot i j o p c d e was lacks why is counts = record {
   ends = λ goes. absurd (let wrong : true ≡ false = goes in cc);
   still = λ goes. absurd (let wrong : true ≡ false = goes in cc);
   bounded = λ few. let l : length e.first ≡ 0 = ap (λ x. length x.first) is in omega (arith, l);
-  ordered = λ ordered. subst (λ x. EndsInOrder x.given x.stages) (sym is) (order_closed d.stages);
+  ordered = λ ordered. subst (λ x. EndsInOrder true x.stages) (sym is) (order_closed d.stages);
 }
 
 -- what is taken from the client's boundary is not before the first stage, but for a chain with no stages
@@ -165,6 +176,13 @@ takes_order up from (s ∷ ss) n from' (s' ∷ ss') (same, part, takes) (here, o
       (takes_order (has_ended s) s.after ss n s'.after ss' takes others),
 )
 
+-- and whether more may come stays as it is
+takes_wants : {P : Type 0} (up : Bool) (from : List ℕ) (ss : List (Stage P)) (n : ℕ) (from' : List ℕ)
+    (ss' : List (Stage P)) → Takes from ss n from' ss' → first_wants up ss' ≡ first_wants up ss
+takes_wants up from [] n from' ss' takes = ap (first_wants up) takes.1
+takes_wants up from (s ∷ ss) n from' [] takes = absurd takes
+takes_wants up from (s ∷ ss) n from' (s' ∷ ss') (same, part, takes) = ap (λ p. not (is_none p)) part
+
 -- the output took some bytes
 pub moves_taken : {P : Type 0} (rest : P → List ℕ → List ℕ) (it ot : Bool) (i o p : Look) (c d : ChainState P)
     (piece : List ℕ) (n : ℕ) (was : Bool) → TakesAway rest n c d → n ≤ length piece
@@ -179,14 +197,18 @@ moves_taken rest it ot i o p c d piece n was takes within front taken count = re
     taken = λ tells. taken tells ∙ ap (λ l. o.taken ++ l) same;
     flow = λ z none. takes.flow z;
     closed = λ given. (refl, takes.given ∙ given);
+    early = λ none. (
+      refl,
+      ap (λ b. first_wants b d.stages) takes.given
+          ∙ takes_wants c.given c.first c.stages n d.first d.stages takes.takes ∙ none,
+    );
   };
   aborts = λ goes stops. absurd (let wrong : false ≡ true = sym goes ∙ stops in cc);
   stays = λ stopped. stopped;
   ends = λ goes opened given. absurd (let wrong : false ≡ true = sym opened ∙ sym takes.given ∙ given in cc);
   still = λ goes given. refl;
   bounded = λ few. omega (arith, few, takes_first c.first c.stages n d.first d.stages takes.takes);
-  ordered = λ ordered. subst (λ b. EndsInOrder b d.stages) (sym takes.given)
-      (takes_order c.given c.first c.stages n d.first d.stages takes.takes ordered);
+  ordered = takes_order true c.first c.stages n d.first d.stages takes.takes;
 }
   where
     same : take n piece ≡ take n (client_wait c)
@@ -207,65 +229,136 @@ steps_first rest from (s ∷ ss) at r from' [] h = absurd (none at h)
     none (suc at) h = h
 steps_first rest from (s ∷ ss) zero (Moved n) from' (s' ∷ ss') h = let l : length from' ≡ length (drop n from)
     = ap length h.0.0 in omega (arith, l, length-drop n from)
-steps_first rest from (s ∷ ss) zero Ended from' (s' ∷ ss') h = let l : length from' ≡ length from = ap length
-    h.0.0 in omega (arith, l)
+steps_first rest from (s ∷ ss) zero Ended from' (s' ∷ ss') h = let l : length from' ≡ 0 = ap length h.0.0 in
+    omega (arith, l)
 steps_first rest from (s ∷ ss) zero (Blocked w) from' (s' ∷ ss') h = let l : length from' ≡ length from = ap
     length h.0.0 in omega (arith, l)
 steps_first rest from (s ∷ ss) zero Idle from' (s' ∷ ss') h = let l : length from' ≡ length from = ap length
     h.0.0 in omega (arith, l)
-steps_first rest from (s ∷ ss) (suc at) r from' (s' ∷ ss') h = let l : length from' ≡ length from = ap length
-    h.0 in omega (arith, l)
-
--- a stage that ends had all that comes
-ended_last : (full : Bool) (up : Bool) (e : Bool) (from after : List ℕ)
-    → AnswersIf (has_work e up from) from after Ended → up ≡ true
-ended_last full true e from after h = refl
-ended_last full false true from after h = absurd (let wrong : Ended ≡ Idle = h in cc)
-ended_last full false false [] after h = absurd (let wrong : Ended ≡ Idle = h in cc)
-ended_last full false false (b ∷ bs) after h = absurd (by_room _ h)
+steps_first {P} rest from (s ∷ ss) (suc at) r from' (s' ∷ ss') h = by_cut (cuts r (done_at ss at)) h.0
   where
-    by_room : (full : Bool) → AnswersWork full (b ∷ bs) after Ended → ⊥
+    by_cut : (b : Bool) → IsBefore b from s from' s' → length from' ≤ length from
+    by_cut true cut = let l : length from' ≡ 0 = ap length cut.0 in omega (arith, l)
+    by_cut false kept = let l : length from' ≡ length from = ap length kept.0 in omega (arith, l)
+
+-- a stage that ends in its order had all that comes
+had_all : (up e : Bool) (from after : List ℕ) → AnswersIf (has_work e up from) false from after Ended
+    → up ≡ true
+had_all true e from after h = refl
+had_all false true from after h = absurd (let wrong : Ended ≡ Idle = h in cc)
+had_all false false [] after h = absurd (let wrong : Ended ≡ Idle = h in cc)
+had_all false false (b ∷ bs) after h = absurd (by_room _ h)
+  where
+    by_room : (full : Bool) → AnswersWork full false (b ∷ bs) after Ended → ⊥
     by_room true h = let wrong : Ended ≡ Blocked (length after) = h in cc
     by_room false h = h
 
--- so stages end in their order
-steps_order : {P : Type 0} (rest : P → List ℕ → List ℕ) (up : Bool) (from : List ℕ) (ss : List (Stage P))
-    (at : ℕ) (r : Pumped) (from' : List ℕ) (ss' : List (Stage P)) → AnswersAt up from ss at r
-    → StepsAt rest from ss at r from' ss' → EndsInOrder up ss → EndsInOrder up ss'
-steps_order rest up from [] at r from' ss' answers h ordered = absurd answers
-steps_order {P} rest up from (s ∷ ss) at r from' [] answers h ordered = tt
-steps_order {P} rest up from (s ∷ ss) zero r from' (s' ∷ ss') answers (step, same) (here, others) = by_answer
-    r answers step
-  where
-    behind : (b : Bool) → EndsInOrder (has_ended s) ss → (has_ended s ≡ true → b ≡ true) → EndsInOrder b ss
-    behind b h goes = later ss h
-      where
-        later : (us : List (Stage P)) → EndsInOrder (has_ended s) us → EndsInOrder b us
-        later [] h = tt
-        later (u ∷ us) (first, more) = (λ ended. goes (first ended), more)
+ended_last : {P : Type 0} (up e : Bool) (part : Option (Part P)) (from after : List ℕ) → is_done part ≡ false
+    → AnswersIf (has_work e (needs_no_more up part) from) (is_done part) from after Ended → up ≡ true
+ended_last up e (Some (Done pause)) from after goes h = absurd (let wrong : true ≡ false = goes in cc)
+ended_last up e (Some (Works p)) from after goes h = had_all up e from after h
+ended_last up e None from after goes h = had_all up e from after h
 
+-- stages that are in order are so where nothing more comes
+order_raised : {P : Type 0} (b : Bool) (ss : List (Stage P)) → EndsInOrder b ss → EndsInOrder true ss
+order_raised b [] h = tt
+order_raised b (s ∷ ss) (here, others) = (λ ended. refl, others)
+
+-- so stages end in their order, but where those before one that is done are closed
+steps_order : {P : Type 0} (rest : P → List ℕ → List ℕ) (told up : Bool) (from : List ℕ) (ss : List (Stage P))
+    (at : ℕ) (r : Pumped) (from' : List ℕ) (ss' : List (Stage P)) → (told ≡ true → up ≡ true)
+    → (up ≡ true) ⊎ (cuts r (done_at ss at) ≡ false) → AnswersAt told from ss at r
+    → StepsAt rest from ss at r from' ss' → EndsInOrder up ss → EndsInOrder up ss'
+steps_order rest told up from [] at r from' ss' above may answers h ordered = absurd answers
+steps_order {P} rest told up from (s ∷ ss) at r from' [] above may answers h ordered = tt
+steps_order {P} rest told up from (s ∷ ss) zero r from' (s' ∷ ss') above may answers (step, same)
+    (here, others) = by_answer r may answers step
+  where
     kept : has_ended s' ≡ has_ended s → EndsInOrder up (s' ∷ ss')
     kept goes = (
       λ ended. here (sym goes ∙ ended),
-      subst (EndsInOrder (has_ended s')) (sym same)
-          (behind (has_ended s') others (λ ended. goes ∙ ended)),
+      subst (EndsInOrder (has_ended s')) (sym same) (subst (λ b. EndsInOrder b ss) (sym goes) others),
     )
 
-    by_answer : (r : Pumped) → AnswersAt up from (s ∷ ss) zero r → Steps rest from s r from' s'
-        → EndsInOrder up (s' ∷ ss')
-    by_answer (Moved n) answers step = kept step.1
-    by_answer Ended answers step = (
-      λ ended. ended_last true up (has_ended s) from s.after answers,
+    in_order : (up ≡ true) ⊎ (is_done s.part ≡ false) → Answers told from s Ended → up ≡ true
+    in_order (inl goes) answers = goes
+    in_order (inr goes) answers = above (ended_last told (has_ended s) s.part from s.after goes answers)
+
+    by_answer : (r : Pumped) → (up ≡ true) ⊎ (cuts r (is_done s.part) ≡ false) → Answers told from s r
+        → Steps rest from s r from' s' → EndsInOrder up (s' ∷ ss')
+    by_answer (Moved n) may answers step = kept step.1
+    by_answer Ended may answers step = (
+      λ ended. in_order may answers,
       subst (EndsInOrder (has_ended s')) (sym same)
-          (behind (has_ended s') others (λ ended. ap (λ p. is_none p) step.1)),
+          (subst (λ p. EndsInOrder (is_none p) ss) (sym step.1) (order_raised (has_ended s) ss others)),
     )
-    by_answer (Blocked w) answers step = kept (ap (λ x. has_ended x) step.1)
-    by_answer Idle answers step = kept (ap (λ x. has_ended x) step.1)
-steps_order rest up from (s ∷ ss) (suc at) r from' (s' ∷ ss') answers (before, part, steps) (here, others) = (
-  λ ended. here (ap (λ p. is_none p) (sym part) ∙ ended),
-  subst (λ b. EndsInOrder b ss') (ap (λ p. is_none p) (sym part))
-      (steps_order rest (has_ended s) s.after ss at r s'.after ss' answers steps others),
-)
+    by_answer (Blocked w) may answers step = kept (ap (λ x. has_ended x) step.1)
+    by_answer Idle may answers step = kept (ap (λ x. has_ended x) step.1)
+steps_order {P} rest told up from (s ∷ ss) (suc at) r from' (s' ∷ ss') above may answers (before, steps)
+    (here, others) = by_cut (cuts r (done_at ss at)) refl before may
+    (steps_order rest (has_ended s) true s.after ss at r s'.after ss' (λ ended. refl) (inl refl) answers steps
+    (order_raised (has_ended s) ss others))
+    (λ is. steps_order rest (has_ended s) (has_ended s) s.after ss at r s'.after ss' (λ ended. ended) (inr is)
+    answers steps others)
+  where
+    by_cut : (b : Bool) → cuts r (done_at ss at) ≡ b → IsBefore b from s from' s'
+        → (up ≡ true) ⊎ (b ≡ false) → EndsInOrder true ss'
+        → (cuts r (done_at ss at) ≡ false → EndsInOrder (has_ended s) ss') → EndsInOrder up (s' ∷ ss')
+    by_cut true is (none, closes) (inr goes) cut kept = absurd (let wrong : true ≡ false = goes in cc)
+    by_cut true is (none, closes) (inl up_ends) cut kept = (
+      λ ended. up_ends,
+      subst (λ p. EndsInOrder (is_none p) ss') (sym closes) cut,
+    )
+    by_cut false is (same, part) may cut kept = (
+      λ ended. here (ap (λ p. is_none p) (sym part) ∙ ended),
+      subst (λ p. EndsInOrder (is_none p) ss') (sym part) (kept is),
+    )
+
+-- a chain that wants no more wants none after a pump
+steps_wants : {P : Type 0} (rest : P → List ℕ → List ℕ) (up : Bool) (from : List ℕ) (ss : List (Stage P))
+    (at : ℕ) (r : Pumped) (from' : List ℕ) (ss' : List (Stage P)) → StepsAt rest from ss at r from' ss'
+    → first_wants up ss ≡ false → first_wants up ss' ≡ false
+steps_wants rest up from [] at r from' ss' h none = absurd (never at h)
+  where
+    never : (at : ℕ) → StepsAt rest from [] at r from' ss' → ⊥
+    never at h = h
+steps_wants rest up from (s ∷ ss) at r from' [] h none = absurd (never at h)
+  where
+    never : (at : ℕ) → StepsAt rest from (s ∷ ss) at r from' [] → ⊥
+    never zero h = h
+    never (suc at) h = h
+steps_wants rest up from (s ∷ ss) zero (Moved n) from' (s' ∷ ss') h none = ap not h.0.1 ∙ none
+steps_wants rest up from (s ∷ ss) zero Ended from' (s' ∷ ss') h none = ap (λ p. not (is_none p)) h.0.1
+steps_wants rest up from (s ∷ ss) zero (Blocked w) from' (s' ∷ ss') h none = ap (λ x. not (has_ended x)) h.0.1
+    ∙ none
+steps_wants rest up from (s ∷ ss) zero Idle from' (s' ∷ ss') h none = ap (λ x. not (has_ended x)) h.0.1 ∙ none
+steps_wants {P} rest up from (s ∷ ss) (suc at) r from' (s' ∷ ss') h none = by_cut (cuts r (done_at ss at)) h.0
+  where
+    by_cut : (b : Bool) → IsBefore b from s from' s' → not (has_ended s') ≡ false
+    by_cut true (empty, closes) = ap (λ p. not (is_none p)) closes
+    by_cut false (same, part) = ap (λ p. not (is_none p)) part ∙ none
+
+-- and the stages stay as many
+steps_len : {P : Type 0} (rest : P → List ℕ → List ℕ) (from : List ℕ) (ss : List (Stage P)) (at : ℕ)
+    (r : Pumped) (from' : List ℕ) (ss' : List (Stage P)) → StepsAt rest from ss at r from' ss'
+    → length ss' ≡ length ss
+steps_len rest from [] at r from' ss' h = absurd (never at h)
+  where
+    never : (at : ℕ) → StepsAt rest from [] at r from' ss' → ⊥
+    never at h = h
+steps_len rest from (s ∷ ss) at r from' [] h = absurd (never at h)
+  where
+    never : (at : ℕ) → StepsAt rest from (s ∷ ss) at r from' [] → ⊥
+    never zero h = h
+    never (suc at) h = h
+steps_len rest from (s ∷ ss) zero r from' (s' ∷ ss') h = ap (λ us. suc (length us)) h.1
+steps_len rest from (s ∷ ss) (suc at) r from' (s' ∷ ss') h = ap suc
+    (steps_len rest s.after ss at r s'.after ss' h.1)
+
+pub pumped_len : {P : Type 0} (rest : P → List ℕ → List ℕ) (c d : ChainState P) → PumpsOnce rest c d
+    → length d.stages ≡ length c.stages
+pumped_len rest c d (inl same) = ap (λ x. length x.stages) same
+pumped_len rest c d (inr (at, h)) = steps_len rest c.first c.stages at h.pumped d.first d.stages h.steps
 
 pub pumped_first : {P : Type 0} (rest : P → List ℕ → List ℕ) (c d : ChainState P) → PumpsOnce rest c d
     → length d.first ≤ length c.first
@@ -274,24 +367,32 @@ pumped_first rest c d (inl same) = let l : length d.first ≡ length c.first = a
 pumped_first rest c d (inr (at, h)) = steps_first rest c.first c.stages at h.pumped d.first d.stages h.steps
 
 pub pumped_order : {P : Type 0} (rest : P → List ℕ → List ℕ) (c d : ChainState P) → PumpsOnce rest c d
-    → EndsInOrder c.given c.stages → EndsInOrder d.given d.stages
-pumped_order rest c d (inl same) ordered = subst (λ x. EndsInOrder x.given x.stages) (sym same) ordered
-pumped_order rest c d (inr (at, h)) ordered = subst (λ b. EndsInOrder b d.stages) (sym h.given)
-    (steps_order rest c.given c.first c.stages at h.pumped d.first d.stages h.answers h.steps ordered)
+    → EndsInOrder true c.stages → EndsInOrder true d.stages
+pumped_order rest c d (inl same) ordered = subst (λ x. EndsInOrder true x.stages) (sym same) ordered
+pumped_order rest c d (inr (at, h)) ordered =
+    steps_order rest c.given true c.first c.stages at h.pumped d.first d.stages (λ given. refl) (inl refl)
+    h.answers h.steps ordered
+
+pumped_wants : {P : Type 0} (rest : P → List ℕ → List ℕ) (c d : ChainState P) → PumpsOnce rest c d
+    → wants c ≡ false → wants d ≡ false
+pumped_wants rest c d (inl same) none = ap (λ x. wants x) same ∙ none
+pumped_wants rest c d (inr (at, h)) none = ap (λ b. first_wants b d.stages) h.given
+    ∙ steps_wants rest c.given c.first c.stages at h.pumped d.first d.stages h.steps none
 
 -- a stage acted
-pub moves_stage : {P : Type 0} (rest : P → List ℕ → List ℕ) (it ot : Bool) (i o : Look) (c d : ChainState P)
-    (ts us : List (Option StageContinuation)) (a b : Context) (was : Bool) → StillGives rest c d ts us a b
-    → MovesOn rest it ot i i o o c d was was ⊥
-moves_stage rest it ot i o c d ts us a b was h = record {
+pub moves_stage : {P : Type 0} (rest : P → List ℕ → List ℕ) (soon : P → List ℕ → Option (List ℕ))
+    (it ot : Bool) (i o : Look) (c d : ChainState P) (ts us : List (Option StageContinuation)) (a b : Context)
+    (was : Bool) → StillGives rest soon c d ts us a b → MovesOn rest it ot i i o o c d was was ⊥
+moves_stage rest soon it ot i o c d ts us a b was h = record {
   counts = (omega arith, omega arith);
   carries = λ goes. record {
     gave = [];
     took = [];
     given = λ tells. sym (append-nil i.given);
     taken = λ tells. sym (append-nil o.taken);
-    flow = λ z none. sym (h.flow z (subst (λ b. OnTrue b (z ≡ [])) h.given none));
+    flow = λ z none. sym (h.flows.flow z (subst (λ b. OnTrue b (z ≡ [])) h.given none));
     closed = λ given. (refl, h.given ∙ given);
+    early = λ none. (refl, pumped_wants rest c d h.once none);
   };
   aborts = λ goes stops. absurd (let wrong : false ≡ true = sym goes ∙ stops in cc);
   stays = λ stopped. stopped;
@@ -336,6 +437,9 @@ carries_then {P} rest it ot i j k o p q c d e h l = record {
   closed = λ given.
       let first = h.closed given in
       let second = l.closed first.1 in (ap (λ x. x ++ l.gave) first.0 ∙ second.0, second.1);
+  early = λ none.
+      let first = h.early none in
+      let second = l.early first.1 in (ap (λ x. x ++ l.gave) first.0 ∙ second.0, second.1);
 }
   where
     none_left : (b : Bool) (z : List ℕ) → OnTrue e.given (z ≡ []) → d.given ≡ b → OnTrue b (l.gave ++ z ≡ [])
@@ -365,10 +469,14 @@ carries_trans {P} rest it ot i j k o p q c d e was mid now h l = record {
   stays = λ stopped. l.stays (h.stays stopped);
   ends = λ goes opened given tells. by_end d.given refl goes opened given tells;
   counts = (omega (arith, h.counts.0, l.counts.0), omega (arith, h.counts.1, l.counts.1));
-  still = λ goes given. l.still goes ((h.carries (before mid refl goes)).closed given).1 ∙ h.still
-      (before mid refl goes) given;
+  still = λ goes none. l.still goes (later (h.carries (before mid refl goes)) none) ∙ h.still
+      (before mid refl goes) none;
 }
   where
+    later : Carries rest it ot i j o p c d → GetsNoMore c → GetsNoMore d
+    later moved (inl given) = inl (moved.closed given).1
+    later moved (inr none) = inr (moved.early none).1
+
     before : (b : Bool) → mid ≡ b → now ≡ false → mid ≡ false
     before false is goes = is
     before true is goes = absurd (let wrong : true ≡ false = sym (l.stays is) ∙ goes in cc)
@@ -376,23 +484,34 @@ carries_trans {P} rest it ot i j k o p q c d e was mid now h l = record {
     by_end : (b : Bool) → d.given ≡ b → now ≡ false → c.given ≡ false → e.given ≡ true → it ≡ true
         → k.left ≡ []
     by_end false is goes opened given tells = l.ends goes is given tells
-    by_end true is goes opened given tells = ap (λ x. x.left) (l.still goes is) ∙ h.ends
+    by_end true is goes opened given tells = ap (λ x. x.left) (l.still goes (inl is)) ∙ h.ends
         (before mid refl goes) opened is tells
 
 -- all that the input gave was written, once nothing is left to do
 pub has_written : {P : Type 0} (rest : P → List ℕ → List ℕ) (it ot : Bool) (i j o p : Look)
     (c d : ChainState P) (was now : Bool) → CarriesOn rest it ot i j o p c d was now → IsFinished d
-    → d.given ≡ true
-    → now ≡ false → c.given ≡ false → it ≡ true → ot ≡ true → HasWritten rest i j o p c
-has_written rest it ot i j o p c d was now h finished given goes opened in_tells out_tells =
-    let moved = h.carries goes in
-    let nothing : flow rest d [] ≡ [] = flow-finished rest d finished.0 finished.1 in
-    let took : flow rest c moved.gave ≡ moved.took =
-    ap (flow rest c) (sym (append-nil moved.gave)) ∙ moved.flow [] (nothing_more d.given) ∙ ap
-    (λ l. moved.took ++ l) nothing ∙ append-nil moved.took in
-    record {
-      gave = moved.gave;
-      given = moved.given in_tells;
-      left = h.ends goes opened given in_tells;
-      taken = moved.taken out_tells ∙ ap (λ l. o.taken ++ l) (sym took);
-    }
+    → GetsNoMore d → now ≡ false → c.given ≡ false → it ≡ true → ot ≡ true → HasWritten rest i j o p c d
+has_written {P} rest it ot i j o p c d was now h finished none goes opened in_tells out_tells = record {
+  gave = moved.gave;
+  given = moved.given in_tells;
+  taken = moved.taken out_tells ∙ ap (λ l. o.taken ++ l)
+      (sym (ap (flow rest c) (sym (append-nil moved.gave)) ∙ took [] (nothing_more d.given)));
+  whole = by_given d.given refl none;
+}
+  where
+    moved : Carries rest it ot i j o p c d
+    moved = h.carries goes
+
+    took : (z : List ℕ) → OnTrue d.given (z ≡ []) → flow rest c (moved.gave ++ z) ≡ moved.took
+    took z more = moved.flow z more ∙ ap (λ l. moved.took ++ l)
+        (flow-finished rest d finished.0 finished.1 z more) ∙ append-nil moved.took
+
+    early : d.given ≡ false → TookEarly rest o p c moved.gave
+    early is z = moved.taken out_tells ∙ ap (λ l. o.taken ++ l)
+        (sym (took z (subst (λ b. OnTrue b (z ≡ [])) (sym is) tt)))
+
+    by_given : (b : Bool) → d.given ≡ b → GetsNoMore d
+        → (j.left ≡ []) ⊎ ((wants d ≡ false) × TookEarly rest o p c moved.gave)
+    by_given true is none = inl (h.ends goes opened is in_tells)
+    by_given false is (inl given) = absurd (let wrong : false ≡ true = sym is ∙ given in cc)
+    by_given false is (inr none) = inr (none, early is)

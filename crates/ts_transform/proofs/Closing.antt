@@ -4,7 +4,7 @@ use Rattle.std.proofs.lemmas.Bool.{ne_eqb}
 use Rattle.std.proofs.lemmas.Bool.Decides.{eqb_tells}
 use Rattle.ts_journal.specs.declared.entry.ContKey.{ContKey}
 use Rattle.ts_journal.specs.declared.entry.Pending.{Pending}
-use Rattle.ts_journal.specs.State.{same_key}
+use Rattle.ts_journal.specs.State.{pending_at, same_key}
 use Rattle.ts_group.specs.declared.action.Named.{Named}
 use Rattle.ts_group.specs.declared.action.Destroy.{Destroy}
 use Rattle.ts_group.specs.declared.action.Destroy.TheVariants as D
@@ -13,15 +13,15 @@ use Rattle.ts_group.specs.Acts.{Destroys}
 use Rattle.ts_group.specs.Changes.{HasLost}
 use Rattle.ts_transform.specs.declared.continuation.StageContinuation.{StageContinuation}
 use Rattle.ts_transform.specs.declared.pump.Stage.{Stage}
-use Rattle.ts_transform.specs.Stage.{has_ended, has_work}
+use Rattle.ts_transform.specs.Stage.{has_ended, has_work, needs_no_more}
 use Rattle.ts_transform.specs.Flow.{ChainState, MustPump, ended_at}
-use Rattle.ts_transform.specs.Driving.{HasEvent, IsNamedIf, AreNamed, IsOfStage, IsOfStageIf, AreOfStages, IsRoused, Keeps, KeepsOthers, gone, changed}
+use Rattle.ts_transform.specs.Driving.{ClosesAt, HasEvent, IsDestroyed, IsGone, IsNamedIf, AreNamed, IsOfStage, IsOfStageIf, AreOfStages, IsRoused, Keeps, KeepsOthers, gone, changed}
 use Rattle.ts_transform.specs.Cover.{IsDriven, IsDrivenBut}
 use Rattle.ts_transform.proofs.Handled.{length-changed, roused-changed}
 use Rattle.ts_transform.proofs.Kept.{kept_if}
 
 -- keys of two indexes differ
-other_key : (a b : ContKey) → a.index ≢ b.index → same_key a b ≡ false
+pub other_key : (a b : ContKey) → a.index ≢ b.index → same_key a b ≡ false
 other_key a b differ = ap (λ t. t && (a.generation == b.generation)) (ne_eqb a.index b.index differ)
 
 -- the stage of another role keeps its continuation and its event
@@ -121,7 +121,7 @@ closed_dead a b role at ts state roles s =
     (gone_at a.log.state.pending a.roles role at ts s))
 
 -- a continuation of a role outside those of the stages keeps its role and its event
-named_place : (roles : List Named) (role at : ℕ) (ts : List (Option StageContinuation))
+pub named_place : (roles : List Named) (role at : ℕ) (ts : List (Option StageContinuation))
     (t : StageContinuation) → slice_get ts at ≡ Some (Some t) → AreNamed roles role ts
     → (role_at t.key.index roles ≡ Some (role + at)) × (at < length ts)
 named_place roles role at [] t is named = absurd
@@ -173,16 +173,61 @@ others_any a b D.Gone first at ts t there h = others_lost first at ts t a b ther
 others_any a b D.Dead first at ts t there h =
     others_same first ts a b (h.dead refl).1.state (h.dead refl).2
 
+-- what is left of the continuation that was destroyed, if there was one
+is_gone : (a b : Context) (key : ContKey) → HasLost a.log.state b.log.state a.roles b.roles key
+    → IsGone a b key
+is_gone a b key lost = record
+    { live = lost.live; roles = lost.roles; none = λ n p there. (lost.from n p there).1; stays = lost.stays }
+
+pub closes_some : (a b : Context) (d : Destroy) (at : ℕ) (ts : List (Option StageContinuation))
+    (t : StageContinuation) → slice_get ts at ≡ Some (Some t)
+    → Destroys a.log b.log a.roles b.roles d t.key → ClosesAt a b ts at
+closes_some a b d at ts t there h = record {
+  closed = λ u stands. subst (λ k. IsDestroyed a b k) (same_key_of u stands) (destroyed d h);
+  stays = λ n p was other. stays d h n p was (other t there);
+}
+  where
+    same_key_of : (u : StageContinuation) → slice_get ts at ≡ Some (Some u) → t.key ≡ u.key
+    same_key_of u stands = let both : ◌≡◌ {A = Option (Option StageContinuation)} (Some (Some t))
+        (Some (Some u)) = sym there ∙ stands in let one : t ≡ u = cc in ap (λ x. x.key) one
+
+    destroyed : (d : Destroy) → Destroys a.log b.log a.roles b.roles d t.key → IsDestroyed a b t.key
+    destroyed D.Gone h = inl (is_gone a b t.key (h.lost refl))
+    destroyed D.Dead h = inr (h.dead refl).0
+
+    stays : (d : Destroy) → Destroys a.log b.log a.roles b.roles d t.key → (n : ℕ) (p : Pending)
+        → pending_at n a.log.state.pending ≡ Some p → same_key p.key t.key ≡ false
+        → pending_at n b.log.state.pending ≡ Some p
+    stays D.Gone h n p was other = (h.lost refl).stays n p was other
+    stays D.Dead h n p was other = ap (λ s. pending_at n s.pending) (h.dead refl).1.state ∙ was
+
+pub closes_nobody : (a : Context) (at : ℕ) (ts : List (Option StageContinuation))
+    → slice_get ts at ≡ Some None → ClosesAt a a ts at
+closes_nobody a at ts none = record {
+  closed = λ t there. absurd (let wrong : ◌≡◌ {A = Option (Option StageContinuation)} (Some None)
+      (Some (Some t)) = sym none ∙ there in cc);
+  stays = λ n p was other. was;
+}
+
 pub others_kept : (first : ℕ) (ts : List (Option StageContinuation)) (a b : Context) → Keeps a b
     → KeepsOthers first ts a b
 others_kept first ts a b keeps role u named outside s = kept_if a b keeps role u s
+
+-- and then some of the stages' were destroyed
+pub others_then : (first : ℕ) (ts : List (Option StageContinuation)) (a m b : Context) → Keeps a m
+    → KeepsOthers first ts m b → KeepsOthers first ts a b
+others_then first ts a m b keeps others role u named outside s =
+    others role u (subst (λ roles. AreNamed roles first ts) (sym keeps.roles) named) outside
+    (kept_if a m keeps role u s)
 
 -- a stage that has ended need not work
 pub ended-rests : {P : Type 0} (up : Bool) (from : List ℕ) (ss : List (Stage P)) (at : ℕ)
     → ended_at ss at ≡ true → MustPump up from ss at → ⊥
 ended-rests up from [] at ended must = must
-ended-rests up from (s ∷ ss) zero ended (work, room) = let wrong : has_work true up from ≡ true = ap
-    (λ e. has_work e up from) (sym ended) ∙ work in let no : false ≡ true = wrong in cc
+ended-rests up from (s ∷ ss) zero ended (work, room) =
+    let enough : Bool = needs_no_more up s.part in
+    let wrong : has_work true enough from ≡ true = ap (λ e. has_work e enough from) (sym ended) ∙ work in
+    let no : false ≡ true = wrong in cc
 ended-rests up from (s ∷ ss) (suc at) ended must = ended-rests (has_ended s) s.after ss at ended must
 
 -- so the others are driven without its continuation

@@ -1,5 +1,5 @@
 -- A stage that worked leaves each stage that must work roused.
-use Rattle.std.proofs.Common.{◌≡◌, ◌≢◌, ℕ, zero, suc, ◌+◌, ◌<◌, ◌≤◌, ◌⊎◌, inl, inr, List, [], ◌∷◌, Bool, true, false, Option, is_none, nat_le, eqb, length, arith, refl, sym, ap, subst, ◌∙◌}
+use Rattle.std.proofs.Common.{◌≡◌, ◌≢◌, ℕ, zero, suc, ◌+◌, ◌<◌, ◌≤◌, ◌⊎◌, inl, inr, List, [], ◌∷◌, Bool, true, false, Option, None, is_none, nat_le, eqb, length, arith, refl, sym, ap, subst, ◌∙◌}
 use Rattle.std.proofs.lemmas.Bool.Decides.{eqb_tells, leb_tells}
 use Rattle.ts_journal.specs.declared.entry.ContKey.{ContKey}
 use Rattle.ts_journal.specs.declared.entry.Pending.{Pending}
@@ -9,27 +9,31 @@ use Rattle.ts_transform.specs.declared.continuation.StageContinuation.{StageCont
 use Rattle.ts_transform.specs.declared.pump.Stage.{Stage}
 use Rattle.ts_transform.specs.declared.pump.Pumped.{Pumped}
 use Rattle.ts_transform.specs.declared.pump.Pumped.TheVariants.{Moved, Ended, Blocked, Idle}
-use Rattle.ts_transform.specs.Stage.{HasDuty, has_ended, has_work, AnswersIf, AnswersWork}
-use Rattle.ts_transform.specs.Flow.{ChainState, HasWork, MustPump, AnswersAt, StepsAt, ended_at, last_ended, last_wait}
+use Rattle.ts_transform.specs.Stage.{HasDuty, has_ended, has_work, is_done, needs_no_more, cuts, AnswersIf, AnswersWork}
+use Rattle.ts_transform.specs.Flow.{ChainState, MustPump, AnswersAt, StepsAt, ended_at, last_ended, last_wait, IsBefore, done_at}
 use Rattle.ts_transform.specs.Driving.{AreOfStages, IsRoused, HasEventIf, Keeps}
 use Rattle.ts_transform.specs.Cover.{Cover, CoverBut, IsRoundRoused, IsDriven, IsDrivenBut, IsDrivenFor, IsAwake}
 use Rattle.ts_transform.specs.World.{IsCovered}
 use Rattle.ts_transform.proofs.Kept.{kept_all}
 
 -- a stage moves one byte at least
-moved-work : (full : Bool) (from after : List ℕ) (n : ℕ) → AnswersWork full from after (Moved n) → 1 ≤ n
-moved-work true from after n h = absurd (let wrong : Moved n ≡ Blocked (length after) = h in cc)
-moved-work false [] after n h = absurd (let wrong : Moved n ≡ Ended = h in cc)
-moved-work false (b ∷ bs) after n h = h.0
+moved-work : (full done : Bool) (from after : List ℕ) (n : ℕ) → AnswersWork full done from after (Moved n)
+    → 1 ≤ n
+moved-work true done from after n h = absurd (let wrong : Moved n ≡ Blocked (length after) = h in cc)
+moved-work false true from after n h = absurd (let wrong : Moved n ≡ Ended = h in cc)
+moved-work false false [] after n h = absurd (let wrong : Moved n ≡ Ended = h in cc)
+moved-work false false (b ∷ bs) after n h = h.0
 
-moved-if : (works : Bool) (from after : List ℕ) (n : ℕ) → AnswersIf works from after (Moved n) → 1 ≤ n
-moved-if true from after n h = moved-work (nat_le 65536 (length after)) from after n h
-moved-if false from after n h = absurd (let wrong : Moved n ≡ Idle = h in cc)
+moved-if : (works done : Bool) (from after : List ℕ) (n : ℕ) → AnswersIf works done from after (Moved n)
+    → 1 ≤ n
+moved-if true done from after n h = moved-work (nat_le 65536 (length after)) done from after n h
+moved-if false done from after n h = absurd (let wrong : Moved n ≡ Idle = h in cc)
 
 pub moved-some : {P : Type 0} (up : Bool) (from : List ℕ) (ss : List (Stage P)) (at n : ℕ)
     → AnswersAt up from ss at (Moved n) → 1 ≤ n
 moved-some up from [] at n h = absurd h
-moved-some up from (s ∷ ss) zero n h = moved-if (has_work (has_ended s) up from) from s.after n h
+moved-some up from (s ∷ ss) zero n h = moved-if (has_work (has_ended s) (needs_no_more up s.part) from)
+    (is_done s.part) from s.after n h
 moved-some up from (s ∷ ss) (suc at) n h = moved-some (has_ended s) s.after ss at n h
 
 -- and only one that must work does so, or ends
@@ -46,31 +50,33 @@ full-not n room = by_test (leb_tells 65536 n)
     by_test (inl (full, long)) = absurd (let wrong : true ≡ false = sym full ∙ room in cc)
     by_test (inr (e, below)) = below
 
-does-room : (full : Bool) (from after : List ℕ) (r : Pumped) → DoesWork r → AnswersWork full from after r
-    → full ≡ false
-does-room false from after r does h = refl
-does-room true from after (Moved n) does h = absurd (let wrong : Moved n ≡ Blocked (length after) = h in cc)
-does-room true from after Ended does h = absurd (let wrong : Ended ≡ Blocked (length after) = h in cc)
-does-room true from after (Blocked w) does h = absurd does
-does-room true from after Idle does h = absurd does
+does-room : (full done : Bool) (from after : List ℕ) (r : Pumped) → DoesWork r
+    → AnswersWork full done from after r → full ≡ false
+does-room false done from after r does h = refl
+does-room true done from after (Moved n) does h = absurd
+    (let wrong : Moved n ≡ Blocked (length after) = h in cc)
+does-room true done from after Ended does h = absurd (let wrong : Ended ≡ Blocked (length after) = h in cc)
+does-room true done from after (Blocked w) does h = absurd does
+does-room true done from after Idle does h = absurd does
 
-does-if : (works : Bool) (from after : List ℕ) (r : Pumped) → DoesWork r → AnswersIf works from after r
-    → HasDuty works after
-does-if true from after r does h = (
+does-if : (works done : Bool) (from after : List ℕ) (r : Pumped) → DoesWork r
+    → AnswersIf works done from after r → HasDuty works after
+does-if true done from after r does h = (
   refl,
   full-not (length after)
-      (does-room (nat_le 65536 (length after)) from after r does h),
+      (does-room (nat_le 65536 (length after)) done from after r does h),
 )
-does-if false from after (Moved n) does h = absurd (let wrong : Moved n ≡ Idle = h in cc)
-does-if false from after Ended does h = absurd (let wrong : Ended ≡ Idle = h in cc)
-does-if false from after (Blocked w) does h = absurd does
-does-if false from after Idle does h = absurd does
+does-if false done from after (Moved n) does h = absurd (let wrong : Moved n ≡ Idle = h in cc)
+does-if false done from after Ended does h = absurd (let wrong : Ended ≡ Idle = h in cc)
+does-if false done from after (Blocked w) does h = absurd does
+does-if false done from after Idle does h = absurd does
 
 pub does-must : {P : Type 0} (up : Bool) (from : List ℕ) (ss : List (Stage P)) (at : ℕ) (r : Pumped)
     → DoesWork r
     → AnswersAt up from ss at r → MustPump up from ss at
 does-must up from [] at r does h = h
-does-must up from (s ∷ ss) zero r does h = does-if (has_work (has_ended s) up from) from s.after r does h
+does-must up from (s ∷ ss) zero r does h = does-if (has_work (has_ended s) (needs_no_more up s.part) from)
+    (is_done s.part) from s.after r does h
 does-must up from (s ∷ ss) (suc at) r does h = does-must (has_ended s) s.after ss at r does h
 
 -- a stage that rests had no work, or no room after it
@@ -80,17 +86,17 @@ IsResting Ended = ⊥
 IsResting (Blocked w) = Unit {0}
 IsResting Idle = Unit {0}
 
-resting-full : (full : Bool) (from after : List ℕ) (r : Pumped) → IsResting r → AnswersWork full from after r
-    → full ≡ true
-resting-full true from after r rests h = refl
-resting-full false [] after (Blocked w) rests h = absurd (let wrong : Blocked w ≡ Ended = h in cc)
-resting-full false [] after Idle rests h = absurd (let wrong : Idle ≡ Ended = h in cc)
-resting-full false (b ∷ bs) after (Blocked w) rests h = absurd h
-resting-full false (b ∷ bs) after Idle rests h = absurd h
-resting-full false [] after (Moved n) rests h = absurd rests
-resting-full false [] after Ended rests h = absurd rests
-resting-full false (b ∷ bs) after (Moved n) rests h = absurd rests
-resting-full false (b ∷ bs) after Ended rests h = absurd rests
+resting-full : (full done : Bool) (from after : List ℕ) (r : Pumped) → IsResting r
+    → AnswersWork full done from after r → full ≡ true
+resting-full true done from after r rests h = refl
+resting-full false done from after (Moved n) rests h = absurd rests
+resting-full false done from after Ended rests h = absurd rests
+resting-full false true from after (Blocked w) rests h = absurd (let wrong : Blocked w ≡ Ended = h in cc)
+resting-full false true from after Idle rests h = absurd (let wrong : Idle ≡ Ended = h in cc)
+resting-full false false [] after (Blocked w) rests h = absurd (let wrong : Blocked w ≡ Ended = h in cc)
+resting-full false false [] after Idle rests h = absurd (let wrong : Idle ≡ Ended = h in cc)
+resting-full false false (b ∷ bs) after (Blocked w) rests h = absurd h
+resting-full false false (b ∷ bs) after Idle rests h = absurd h
 
 full-long : (n : ℕ) → nat_le 65536 n ≡ true → n < 65536 → ⊥
 full-long n full short = by_test (leb_tells 65536 n)
@@ -99,58 +105,84 @@ full-long n full short = by_test (leb_tells 65536 n)
     by_test (inl (e, long)) = omega (arith, long, short)
     by_test (inr (e, below)) = let wrong : true ≡ false = sym full ∙ e in cc
 
-resting-if : (works : Bool) (from after : List ℕ) (r : Pumped) → IsResting r → AnswersIf works from after r
-    → works ≡ true → length after < 65536 → ⊥
-resting-if true from after r rests h work short = full-long (length after)
-    (resting-full (nat_le 65536 (length after)) from after r rests h) short
-resting-if false from after r rests h work short = let wrong : false ≡ true = work in cc
+resting-if : (works done : Bool) (from after : List ℕ) (r : Pumped) → IsResting r
+    → AnswersIf works done from after r → works ≡ true → length after < 65536 → ⊥
+resting-if true done from after r rests h work short = full-long (length after)
+    (resting-full (nat_le 65536 (length after)) done from after r rests h) short
+resting-if false done from after r rests h work short = let wrong : false ≡ true = work in cc
 
 pub resting : {P : Type 0} (up : Bool) (from : List ℕ) (ss : List (Stage P)) (at : ℕ) (r : Pumped)
     → IsResting r → AnswersAt up from ss at r → MustPump up from ss at → ⊥
 resting up from [] at r rests h must = must
-resting up from (s ∷ ss) zero r rests h (work, short) = resting-if (has_work (has_ended s) up from) from
-    s.after r rests h work short
+resting up from (s ∷ ss) zero r rests h (work, short) = resting-if
+    (has_work (has_ended s) (needs_no_more up s.part) from) (is_done s.part) from s.after r rests h work short
 resting up from (s ∷ ss) (suc at) r rests h must = resting (has_ended s) s.after ss at r rests h must
 
--- a pump behind the first stage leaves what waits before that
-front-same : {P : Type 0} (rest : P → List ℕ → List ℕ) (from : List ℕ) (ss : List (Stage P)) (at : ℕ)
-    (r : Pumped) (from' : List ℕ) (ss' : List (Stage P))
-    → StepsAt rest from ss (suc at) r from' ss' → from' ≡ from
-front-same rest from [] at r from' ss' h = absurd h
-front-same rest from (s ∷ ss) at r from' [] h = absurd h
-front-same rest from (s ∷ ss) at r from' (s' ∷ ss') h = h.0
+-- a stage that was cut off need not work
+cut-rests : {P : Type 0} (up : Bool) (from : List ℕ) (s : Stage P) → s.part ≡ None
+    → HasDuty (has_work (has_ended s) (needs_no_more up s.part) from) s.after → ⊥
+cut-rests up from s gone (work, room) =
+    let enough : Bool = needs_no_more up s.part in
+    let wrong : has_work true enough from ≡ true =
+    ap (λ p. has_work (is_none p) enough from) (sym gone) ∙ work in let no : false ≡ true = wrong in cc
 
--- whether a stage must work that is not beside the one that worked, is as before
-must-far : {P : Type 0} (rest : P → List ℕ → List ℕ) (up : Bool) (from : List ℕ) (ss : List (Stage P))
+-- a pump behind a stage that it does not cut off leaves what waits before and after that
+front-same : {P : Type 0} (rest : P → List ℕ → List ℕ) (from : List ℕ) (ss : List (Stage P)) (at : ℕ)
+    (r : Pumped) (from' : List ℕ) (ss' : List (Stage P)) → cuts r (done_at ss (suc at)) ≡ false
+    → StepsAt rest from ss (suc at) r from' ss' → from' ≡ from
+front-same rest from [] at r from' ss' uncut h = absurd h
+front-same rest from (s ∷ ss) at r from' [] uncut h = absurd h
+front-same {P} rest from (s ∷ ss) at r from' (s' ∷ ss') uncut h =
+    let before : IsBefore false from s from' s' = subst (λ cut. IsBefore cut from s from' s') uncut h.0 in
+    before.0
+
+-- whether a stage must work that is not beside the one that worked, is as before, or it was cut off; whether
+-- its upstream has ended is so too, unless that was cut off
+must-far : {P : Type 0} (rest : P → List ℕ → List ℕ) (up up' : Bool) (from : List ℕ) (ss : List (Stage P))
     (at : ℕ) (r : Pumped) (from' : List ℕ) (ss' : List (Stage P))
-    → StepsAt rest from ss at r from' ss' → (j : ℕ) → j ≢ at → j ≢ at + 1 → j + 1 ≢ at
-    → MustPump up from' ss' j → MustPump up from ss j
-must-far rest up from [] at r from' ss' steps j a b c must = absurd (none at steps)
+    → StepsAt rest from ss at r from' ss' → (cuts r (done_at ss at) ≡ false → up' ≡ up)
+    → (j : ℕ) → j ≢ at → j ≢ at + 1 → j + 1 ≢ at → MustPump up' from' ss' j → MustPump up from ss j
+must-far rest up up' from [] at r from' ss' steps same_up j a b c must = absurd (none at steps)
   where
     none : (at : ℕ) → StepsAt rest from [] at r from' ss' → ⊥
     none at h = h
-must-far rest up from (s ∷ ss) at r from' [] steps j a b c must = absurd must
-must-far rest up from (s ∷ ss) zero r from' (s' ∷ ss') steps zero a b c must = absurd (a refl)
-must-far rest up from (s ∷ ss) zero r from' (s' ∷ ss') (step, same) (suc zero) a b c must = absurd
+must-far rest up up' from (s ∷ ss) at r from' [] steps same_up j a b c must = absurd must
+must-far rest up up' from (s ∷ ss) zero r from' (s' ∷ ss') steps same_up zero a b c must = absurd (a refl)
+must-far rest up up' from (s ∷ ss) zero r from' (s' ∷ ss') (step, same) same_up (suc zero) a b c must = absurd
     (b (omega arith))
-must-far {P = P} rest up from (s ∷ ss) zero r from' (s' ∷ ss') (step, same) (suc (suc k)) a b c must =
-    behind ss (subst (λ us. MustPump (has_ended s') s'.after us (suc k)) same must)
+must-far {P = P} rest up up' from (s ∷ ss) zero r from' (s' ∷ ss') (step, same) same_up (suc (suc k)) a b c
+    must = behind ss (subst (λ us. MustPump (has_ended s') s'.after us (suc k)) same must)
   where
     behind : (us : List (Stage P)) → MustPump (has_ended s') s'.after us (suc k)
         → MustPump (has_ended s) s.after us (suc k)
     behind [] h = h
     behind (u ∷ us) h = h
-must-far rest up from (s ∷ ss) (suc zero) r from' (s' ∷ ss') steps zero a b c must = absurd (c (omega arith))
-must-far rest up from (s ∷ ss) (suc (suc at)) r from' (s' ∷ ss') (same, part, steps) zero a b c (work, room) =
-    let after : s'.after ≡ s.after = front-same rest s.after ss at r s'.after ss' steps in (
-      ap (λ l. has_work (has_ended s) up l) (sym same) ∙ ap (λ p. has_work (is_none p) up from') (sym part) ∙
-          work,
-      subst (λ l. length l < 65536) after room,
-    )
-must-far rest up from (s ∷ ss) (suc at) r from' (s' ∷ ss') (before, part, steps) (suc k) a b c must =
-    must-far rest (has_ended s) s.after ss at r s'.after ss' steps k
-    (λ e. a (omega (arith, e))) (λ e. b (omega (arith, e))) (λ e. c (omega (arith, e)))
-    (subst (λ p. MustPump (is_none p) s'.after ss' k) part must)
+must-far rest up up' from (s ∷ ss) (suc zero) r from' (s' ∷ ss') steps same_up zero a b c must = absurd
+    (c (omega arith))
+must-far {P = P} rest up up' from (s ∷ ss) (suc (suc at)) r from' (s' ∷ ss') (before, steps) same_up zero a
+    b c must = by_cut (cuts r (done_at ss (suc at))) refl
+  where
+    by_cut : (cut : Bool) → cuts r (done_at ss (suc at)) ≡ cut
+        → HasDuty (has_work (has_ended s) (needs_no_more up s.part) from) s.after
+    by_cut true is = let off : IsBefore true from s from' s' = subst (λ cut. IsBefore cut from s from' s') is
+        before in absurd (cut-rests up' from' s' off.1 must)
+    by_cut false is =
+        let stays : IsBefore false from s from' s' = subst (λ cut. IsBefore cut from s from' s') is before in
+        let after : s'.after ≡ s.after = front-same rest s.after ss at r s'.after ss' is steps in
+        let u : up' ≡ up = same_up is in (
+          ap (λ l. has_work (has_ended s) (needs_no_more up s.part) l) (sym stays.0)
+              ∙ ap (λ p. has_work (is_none p) (needs_no_more up p) from') (sym stays.1)
+              ∙ ap (λ b. has_work (has_ended s') (needs_no_more b s'.part) from') (sym u) ∙ must.0,
+          subst (λ l. length l < 65536) after must.1,
+        )
+must-far {P = P} rest up up' from (s ∷ ss) (suc at) r from' (s' ∷ ss') (before, steps) same_up (suc k) a b c
+    must =
+    must-far rest (has_ended s) (has_ended s') s.after ss at r s'.after ss' steps same_end k
+    (λ e. a (omega (arith, e))) (λ e. b (omega (arith, e))) (λ e. c (omega (arith, e))) must
+  where
+    same_end : cuts r (done_at ss at) ≡ false → has_ended s' ≡ has_ended s
+    same_end uncut = let stays : IsBefore false from s from' s' = subst (λ cut. IsBefore cut from s from' s')
+        uncut before in ap (λ p. is_none p) stays.1
 
 -- Where the stages round one that worked were roused, the others are as before.
 covered : {P : Type 0} (rest : P → List ℕ → List ℕ) (c d : ChainState P)
@@ -163,9 +195,8 @@ covered rest c d ts us at r steps given cover still round j must = by_self (eqb_
         → j ≢ at + 1 → IsRoused us j
     by_before (inl (t, e)) not_self not_after = round.before j e must
     by_before (inr (t, not_before)) not_self not_after =
-        still j (cover j not_self (must-far rest c.given c.first c.stages at r d.first d.stages steps j
-        not_self not_after not_before
-        (subst (λ b. MustPump b d.first d.stages j) given must)))
+        still j (cover j not_self (must-far rest c.given d.given c.first c.stages at r d.first d.stages
+        steps (λ uncut. given) j not_self not_after not_before must))
 
     by_after : ((eqb j (at + 1) ≡ true) × (j ≡ at + 1)) ⊎ ((eqb j (at + 1) ≡ false) × (j ≢ at + 1)) → j ≢ at
         → IsRoused us j
@@ -256,25 +287,20 @@ pub marked_sound : {P : Type 0} (a b : Context) (c d : ChainState P) (ts us : Li
     (was running : Bool) (key : Option ContKey)
     → ((a b : Context) → Keeps a b → HasEventIf b.log.state.pending key → IsDriven 1 c ts a.log.state.pending
     a.roles → IsDriven 1 d us b.log.state.pending b.roles)
-    → d ≡ c → running ≡ was → length us ≡ length ts → Keeps a b → HasEventIf b.log.state.pending key
+    → d ≡ c → running ≡ was → Keeps a b → HasEventIf b.log.state.pending key
     → IsCovered c ts was a.log.state.pending a.roles → IsCovered d us running b.log.state.pending b.roles
-marked_sound a b c d ts us was running key marked same runs len keeps has s = record {
+marked_sound a b c d ts us was running key marked same runs keeps has s = record {
   given = ap (λ x. x.given) same ∙ s.given;
   plain = keeps.plain s.plain;
   driven = λ now. marked a b keeps has (s.driven (sym runs ∙ now));
-  fresh = λ none j work. s.fresh (sym len ∙ none) j
-      (subst (λ x. HasWork x.given x.first x.stages (j + 1)) same work);
 }
 
 -- more events leave a sound world sound
 pub sound_kept : {P : Type 0} (a b : Context) (c : ChainState P) (ts : List (Option StageContinuation))
     (running : Bool) → Keeps a b
     → IsCovered c ts running a.log.state.pending a.roles → IsCovered c ts running b.log.state.pending b.roles
-sound_kept a b c ts running keeps s =
-    record {
-      given = s.given;
-      plain = keeps.plain s.plain;
-      driven = λ runs. driven_kept 1 a b c ts keeps
-          (s.driven runs);
-      fresh = s.fresh;
-    }
+sound_kept a b c ts running keeps s = record {
+  given = s.given;
+  plain = keeps.plain s.plain;
+  driven = λ runs. driven_kept 1 a b c ts keeps (s.driven runs);
+}

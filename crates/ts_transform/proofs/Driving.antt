@@ -18,6 +18,7 @@ use Rattle.ts_transform.specs.Driven.{HasAllLive, Loses, MayLose}
 use Rattle.ts_transform.specs.World.{GoesOnWith}
 use Rattle.ts_transform.specs.declared.world.ChainWorld.{ChainWorld}
 use Rattle.ts_transform.proofs.Acting.{acts_run, nothing_more}
+use Rattle.ts_transform.proofs.Carrying.{pumped_len}
 use Rattle.ts_transform.proofs.Kept.{cause_weaker}
 use Rattle.ts_lists.proofs.Fronts.{taken_table}
 use Rattle.ts_transform.proofs.Taking.{takes-len, takes-others}
@@ -38,12 +39,14 @@ acts_in rest pause place at event c d ts xs us n ok was now a b here same len th
     (acts_run rest pause place event c d ts (unroused_at event ts place) us ok was now a b then as_was h)))
 
 -- a world of one chain goes on with its body
-pub goes_on_with : {P : Type 0} (rest : P → List ℕ → List ℕ) (v w : ChainWorld P) (a b : Context)
-    → StillGives rest v.driven.chain w.driven.chain v.driven.table.items w.driven.table.items a b
+pub goes_on_with : {P : Type 0} (rest : P → List ℕ → List ℕ) (soon : P → List ℕ → Option (List ℕ))
+    (v w : ChainWorld P) (a b : Context)
+    → StillGives rest soon v.driven.chain w.driven.chain v.driven.table.items w.driven.table.items a b
     → GoesOnWith rest v w a b
-goes_on_with rest v w a b h = record {
+goes_on_with rest soon v w a b h = record {
   once = h.once;
-  flow = h.flow [] (nothing_more v.driven.chain.given);
+  len = pumped_len rest v.driven.chain w.driven.chain h.once;
+  flow = h.flows.flow [] (nothing_more v.driven.chain.given);
   pays = h.pays [] (nothing_more v.driven.chain.given);
 }
 

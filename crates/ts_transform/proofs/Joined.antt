@@ -1,9 +1,10 @@
 -- Each duty of a chain between two links has its event.
-use Rattle.std.proofs.Common.{◌≡◌, ◌≢◌, ◌≤◌, ◌+◌, ◌⊎◌, inl, inr, ℕ, List, [], ◌∷◌, map, Bool, true, false, length, Option, Some, None, Result, Ok, Err, IsTrue, arith, refl, sym, ap, subst, ◌∙◌}
+use Rattle.std.proofs.Common.{◌≡◌, ◌≢◌, ◌≤◌, ◌+◌, ◌⊎◌, inl, inr, ℕ, suc, List, [], ◌∷◌, map, Bool, true, false, length, Option, Some, None, Result, Ok, Err, IsTrue, arith, refl, sym, ap, subst, ◌∙◌}
 use Rattle.ts_journal.specs.declared.entry.Event.{Event}
 use Rattle.ts_journal.specs.declared.entry.Pending.{Pending}
 use Rattle.ts_group.specs.declared.action.Named.{Named}
 use Rattle.std.specs.Prelude.{⊤}
+use Rattle.std.proofs.lemmas.Bool.{not-false, not-true}
 use Rattle.ts_group.specs.declared.action.SetFault.{SetFault}
 use Rattle.ts_group.specs.declared.action.SetFault.TheVariants as F
 use Rattle.ts_group.specs.declared.action.MakeFault.{MakeFault}
@@ -15,13 +16,13 @@ use Rattle.ts_transform.specs.declared.driven.DrivenChain.{DrivenChain}
 use Rattle.ts_transform.specs.declared.loss.Loss.{Loss}
 use Rattle.ts_transform.specs.declared.pump.Stage.{Stage}
 use Rattle.ts_transform.specs.Stage.{has_ended}
-use Rattle.ts_transform.specs.Flow.{ChainState, EndsInOrder, IsFinished, MustPump, aborted, client_wait, closed, last_ended, last_wait, ended_at}
+use Rattle.ts_transform.specs.Flow.{ChainState, EndsInOrder, IsFinished, MustPump, aborted, client_wait, closed, ended_at, first_wants, last_ended, last_wait, wants}
 use Rattle.ts_transform.specs.Driving.{ActsWithin, HasEvent, IsCause, AreOfStages, IsHandled, IsNamedIf, IsOfStageIf, IsRousedIf, Keeps, KeepsOthers, unroused, works_at, all_unroused}
 use Rattle.ts_transform.specs.Cover.{IsDriven}
 use Rattle.ts_transform.specs.declared.loss.Loss.TheVariants.{NoMemory}
 use Rattle.ts_transform.specs.Driven.{HasBegun, Loses, MayLose, HasAllLive}
 use Rattle.ts_transform.specs.Loss.{IsCauseOf, loss_of, making_loss}
-use Rattle.ts_transform.specs.Carrying.{HasBegunAlong, AreEndsRoused, FallsTold, AreLinked, HasNoDuty, IsCarried, IsJoined, IsOfNobody, MayBreak, RetriesOnce, RetriesRead, RetriesWrite, AreLiveAlong, KeepsCourse, StaysLinked}
+use Rattle.ts_transform.specs.Carrying.{HasBegunAlong, AreEndsRoused, FallsTold, AreLinked, HasNoDuty, GetsNoMore, IsCarried, IsJoined, IsOfNobody, MayBreak, RetriesOnce, RetriesRead, RetriesWrite, AreLiveAlong, KeepsCourse, StaysLinked}
 use Rattle.ts_transform.specs.declared.link_world.LinkWorld.{LinkWorld}
 use Rattle.ts_transform.specs.declared.link_world.TheConstants.{READER, WRITER}
 use Rattle.ts_transform.specs.Acting.{KeepsLive}
@@ -33,7 +34,8 @@ use Rattle.ts_transform.proofs.Setting.{of_stages_named}
 use Rattle.ts_transform.proofs.Covering.{driven_kept}
 use Rattle.ts_transform.proofs.Starting.{made_if}
 use Rattle.ts_lists.proofs.Sizes.{empty_unless, longer_not_empty}
-use Rattle.ts_transform.proofs.Taking.{aborted_driven, ended-rests, full-else, none-roused}
+use Rattle.ts_transform.proofs.Resting.{ended-rests, full-else}
+use Rattle.ts_transform.proofs.Taking.{aborted_driven, none-roused}
 
 -- the stages went on, and the ends stayed as they were
 pub joined_driven : {P : Type 0} (c d : ChainState P) (ts us : List (Option StageContinuation))
@@ -279,11 +281,12 @@ pub end_loses : {P Live : Type 0} (d e : DrivenChain P) (fault : SetFault) (now 
 end_loses d e fault now stopped lost cause = inr (fault, stopped, lost, cause)
 
 -- nobody is roused where nothing is pending
-pub none_pending : (roles : List Named) (role : ℕ) (t : Option StageContinuation) → IsOfStageIf [] roles role t
-    → IsRousedIf t → ⊥
+pub none_pending : (roles : List Named) (role : ℕ) (t : Option StageContinuation)
+    → IsOfStageIf [] roles role t → IsRousedIf t → ⊥
 none_pending roles role None h roused = roused
-none_pending roles role (Some t) h roused = let e : HasEvent [] t.key = h.event roused in let wrong : None ≡ Some
-    e.event = e.there in cc
+none_pending roles role (Some t) h roused =
+    let e : HasEvent [] t.key = h.event roused in
+    let wrong : None ≡ Some e.event = e.there in cc
 
 -- where more may come the last stage has not ended
 goes_on : {P : Type 0} (up : Bool) (ss : List (Stage P)) → up ≡ false → EndsInOrder up ss
@@ -295,12 +298,28 @@ goes_on up (s ∷ ss) goes (here, others) = goes_on (has_ended s) ss (not_yet (h
     not_yet false is = refl
     not_yet true is = absurd (let wrong : false ≡ true = sym goes ∙ here is in cc)
 
--- So a chain between two links that runs has read and written all once nothing is pending.
+-- so it has where the chain wants more
+goes_first : {P : Type 0} (up : Bool) (ss : List (Stage P)) → up ≡ false → first_wants up ss ≡ true
+    → EndsInOrder true ss → last_ended up ss ≡ false
+goes_first up [] goes more h = goes
+goes_first up (s ∷ ss) goes more (here, others) =
+    goes_on (has_ended s) ss (not-true (has_ended s) more) others
+
+-- what comes to the first stage has ended, or that has
+ended_rest : {P : Type 0} (up : Bool) (from : List ℕ) (ss : List (Stage P))
+    → (up ≡ true) ⊎ (first_wants up ss ≡ false) → ((j : ℕ) → MustPump up from ss j → ⊥)
+    → last_wait from ss ≡ [] → last_ended up ss ≡ true
+ended_rest up from ss (inl ended) rests none = ended-rests up from ss (inl ended) rests none
+ended_rest up from [] (inr shut) rests none = not-false up shut
+ended_rest up from (s ∷ ss) (inr shut) rests none = ended-rests (has_ended s) s.after ss
+    (inl (not-false (has_ended s) shut)) (λ j must. rests (suc j) must) none
+
+-- So a chain between two links that runs has written all once nothing is pending, and nothing more comes.
 pub all_carried : {P : Type 0} (c : ChainState P) (ts : List (Option StageContinuation))
     (w r : Option StageContinuation) (roles : List Named) → IsJoined c ts w r [] roles → AreEndsRoused c w r
-    → EndsInOrder c.given c.stages → IsFinished c × (c.given ≡ true)
+    → EndsInOrder true c.stages → IsFinished c × GetsNoMore c
 all_carried {P} c ts w r roles h ends ordered =
-    ((ended-rests c.given c.first c.stages (inl given) rests wait, wait), given)
+    ((ended_rest c.given c.first c.stages shut rests wait, wait), shut)
   where
     wait : client_wait c ≡ []
     wait = empty_unless (client_wait c) (λ some. none_pending roles 1 w h.of_writer (ends.writes some))
@@ -308,16 +327,19 @@ all_carried {P} c ts w r roles h ends ordered =
     rests : (j : ℕ) → MustPump c.given c.first c.stages j → ⊥
     rests j must = none-roused roles 3 ts j h.stages.of_stages (h.stages.cover j must)
 
-    by_end : (b : Bool) → c.given ≡ b → c.given ≡ true
-    by_end true is = is
-    by_end false is =
-        let long : 65536 ≤ length c.first = full-else (length c.first)
-        (λ short. none_pending roles 2 r h.of_reader (ends.reads (is, short))) in
-        absurd (let wrong : false ≡ true = sym (goes_on c.given c.stages is ordered) ∙ ended-rests c.given
-        c.first c.stages (inr (longer_not_empty 65535 c.first long)) rests wait in cc)
+    long : c.given ≡ false → wants c ≡ true → 65536 ≤ length c.first
+    long opened more = full-else (length c.first)
+        (λ short. none_pending roles 2 r h.of_reader (ends.reads (opened, more, short)))
 
-    given : c.given ≡ true
-    given = by_end c.given refl
+    by_more : (b e : Bool) → c.given ≡ b → wants c ≡ e → GetsNoMore c
+    by_more true e is more = inl is
+    by_more false false is more = inr more
+    by_more false true is more = absurd (let wrong : false ≡ true = sym
+        (goes_first c.given c.stages is more ordered) ∙ ended-rests c.given c.first c.stages
+        (inr (longer_not_empty 65535 c.first (long is more))) rests wait in cc)
+
+    shut : GetsNoMore c
+    shut = by_more c.given (wants c) refl refl
 
 -- nothing is left to do where the chain was aborted
 closed_wait : {P : Type 0} (ss : List (Stage P)) → last_wait [] (map closed ss) ≡ []

@@ -13,7 +13,9 @@ pub mod PassedErrors
 pub mod Called
 pub mod Seating
 pub mod Seats
+pub mod Resting
 pub mod Setting
+pub mod Soon
 pub mod MaySet
 pub mod Acting
 pub mod Along

@@ -10,8 +10,8 @@ use Rattle.ts_transform.specs.declared.continuation.StageContinuation.{StageCont
 use Rattle.ts_transform.specs.declared.pump.Pumped.{Pumped}
 use Rattle.ts_transform.specs.declared.pump.Pumped.TheVariants.{Moved, Ended, Blocked, Idle}
 use Rattle.ts_transform.specs.declared.pump.Stage.{Stage}
-use Rattle.ts_transform.specs.Stage.{Steps, has_ended}
-use Rattle.ts_transform.specs.Flow.{ChainState, MayPump, MustPump, MustWork, StepsAt, Takes, aborted, closed, ended_at}
+use Rattle.ts_transform.specs.Stage.{Steps, has_ended, cuts}
+use Rattle.ts_transform.specs.Flow.{ChainState, MayPump, MustPump, MustWork, StepsAt, Takes, aborted, closed, ended_at, IsBefore, done_at}
 use Rattle.ts_transform.specs.Driving.{AreLive, EachIsLive, HasLive, HasLiveIf, IsCause, Keeps, all_unroused, changed, error_passed, unroused}
 use Rattle.ts_transform.specs.Cover.{AreAllLive}
 use Rattle.ts_transform.specs.Acting.{KeepsLive}
@@ -144,10 +144,13 @@ pumped_goes {P} rest from (s ∷ ss) zero r from' (s' ∷ ss') (step, same) zero
     by_answer Idle step = ap has_ended (sym step.1) ∙ going
 pumped_goes rest from (s ∷ ss) zero r from' (s' ∷ ss') (step, same) (suc j) going = ap (λ us. ended_at us j)
     (sym same) ∙ going
-pumped_goes rest from (s ∷ ss) (suc at) r from' (s' ∷ ss') h zero going = ap (λ p. is_none p) (sym h.1) ∙
-    going
+pumped_goes rest from (s ∷ ss) (suc at) r from' (s' ∷ ss') h zero going = by_cut (cuts r (done_at ss at)) h.0
+  where
+    by_cut : (cut : Bool) → IsBefore cut from s from' s' → has_ended s ≡ false
+    by_cut true off = absurd (let wrong : true ≡ false = sym (ap (λ p. is_none p) off.1) ∙ going in cc)
+    by_cut false stays = ap (λ p. is_none p) (sym stays.1) ∙ going
 pumped_goes rest from (s ∷ ss) (suc at) r from' (s' ∷ ss') h (suc j) going = pumped_goes rest s.after ss at r
-    s'.after ss' h.2 j going
+    s'.after ss' h.1 j going
 
 pub may_pump_goes : {P : Type 0} (rest : P → List ℕ → List ℕ) (at : ℕ) (c d : ChainState P)
     → MayPump rest at c d → (j : ℕ) → ended_at d.stages j ≡ false → ended_at c.stages j ≡ false

@@ -10,11 +10,11 @@ use Rattle.ts_transform.specs.declared.continuation.StageContinuation.{StageCont
 use Rattle.ts_transform.specs.declared.pump.Stage.{Stage}
 use Rattle.ts_transform.specs.declared.pump.Pumped.{Pumped}
 use Rattle.ts_transform.specs.declared.pump.Pumped.TheVariants.{Ended, Idle}
-use Rattle.ts_transform.specs.Stage.{has_ended, has_work, AnswersIf}
+use Rattle.ts_transform.specs.Stage.{has_ended, has_work, is_done, needs_no_more, AnswersIf}
 use Rattle.ts_transform.specs.Flow.{ChainState, AnswersAt, StepsAt, MustWork, ended_at, pause_at}
-use Rattle.ts_transform.specs.Driving.{AreOfStages, IsRoused, IsRousingOf, IsTellingBefore, Keeps, KeepsStages, OnlyTellsBefore, RousesAt, SetsOnly}
+use Rattle.ts_transform.specs.Driving.{AreOfStages, IsRoused, IsRousingOf, IsTellingBefore, Keeps, KeepsStages, Lessens, OnlyTellsBefore, RousesAt, SetsOnly, is_there_at}
 use Rattle.ts_transform.specs.Cover.{IsRousing, MaySet, OnlyRouses, OnlySets}
-use Rattle.ts_transform.proofs.Setting.{only_none, only_trans, only_weaker, named_kept, stages_named}
+use Rattle.ts_transform.proofs.Setting.{only_less, only_none, only_same, only_trans, only_weaker, named_kept, stages_named}
 
 -- the stage at a place is roused since it must work and was not roused
 pub rousing_ready : {P : Type 0} (pause : P → ℕ) (c : ChainState P) (ts : List (Option StageContinuation))
@@ -66,7 +66,9 @@ goes_before : {P : Type 0} (up : Bool) (from : List ℕ) (ss : List (Stage P)) (
 goes_before up from [] at h = absurd h
 goes_before {P} up from (s ∷ ss) zero h = by_end (has_ended s) h
   where
-    by_end : (ended : Bool) → AnswersIf (has_work ended up from) from s.after Ended → ended ≡ false
+    by_end : (ended : Bool)
+        → AnswersIf (has_work ended (needs_no_more up s.part) from) (is_done s.part) from s.after Ended
+        → ended ≡ false
     by_end true wrong = absurd (let no : ◌≡◌ {A = Pumped} Ended Idle = wrong in cc)
     by_end false work = refl
 goes_before up from (s ∷ ss) (suc at) h = goes_before (has_ended s) s.after ss at h
@@ -77,7 +79,7 @@ ended_then : {P : Type 0} (rest : P → List ℕ → List ℕ) (from : List ℕ)
 ended_then rest from [] at from' ss' h = absurd h
 ended_then rest from (s ∷ ss) at from' [] h = absurd h
 ended_then rest from (s ∷ ss) zero from' (s' ∷ ss') h = ap is_none h.0.1
-ended_then rest from (s ∷ ss) (suc at) from' (s' ∷ ss') h = ended_then rest s.after ss at s'.after ss' h.2
+ended_then rest from (s ∷ ss) (suc at) from' (s' ∷ ss') h = ended_then rest s.after ss at s'.after ss' h.1
 
 -- and the stage before it was told so
 pub may_tell : {P : Type 0} (pause : P → ℕ) (rest : P → List ℕ → List ℕ) (old new : ChainState P)
@@ -92,7 +94,7 @@ may_tell pause rest old new ts us at event pumped a b c is answers steps keeps s
     only_trans (MaySet pause first old new ts at event a.moment a.roles) a b c
     (may_rouse pause old new ts at event a b rousing first named) second
     (only_weaker (IsTellingBefore WriteComplete first at a.roles)
-    (MaySet pause first old new ts at event a.moment a.roles) b c (λ p h. inr (inl (h, goes, ended)))
+    (MaySet pause first old new ts at event a.moment a.roles) b c (λ p h. inr (inl (h, goes_not, ended)))
     (subst (λ roles. SetsOnly (IsTellingBefore WriteComplete first at roles) b c) keeps.roles
     (telling first (named_kept first a b ts us keeps stages.same named))))
   where
@@ -100,9 +102,31 @@ may_tell pause rest old new ts us at event pumped a b c is answers steps keeps s
     goes = goes_before old.given old.first old.stages at
         (subst (AnswersAt old.given old.first old.stages at) is answers)
 
+    goes_not : ended_at old.stages at ≡ true → is_there_at ts at ≡ true
+    goes_not before = absurd (let wrong : false ≡ true = sym goes ∙ before in cc)
+
     ended : ended_at new.stages at ≡ true
     ended = ended_then rest old.first old.stages at new.first new.stages
         (subst (λ r. StepsAt rest old.first old.stages at r new.first new.stages) is steps)
+
+-- or that it had ended, where it still had its continuation
+pub may_close : {P : Type 0} (pause : P → ℕ) (c : ChainState P)
+    (ts : List (Option StageContinuation)) (at : ℕ) (event : Event) (a b d : Context)
+    → ended_at c.stages at ≡ true
+    → OnlyTellsBefore WriteComplete at ts a b → (is_there_at ts at ≡ false → b ≡ a) → Lessens b d
+    → OnlySets pause c c ts at event a d
+may_close pause c ts at event a b d ended telling quiet lessens first named =
+    only_less (MaySet pause first c c ts at event a.moment a.roles) a b d (by_there (is_there_at ts at) refl)
+    lessens
+  where
+    by_there : (there : Bool) → is_there_at ts at ≡ there
+        → SetsOnly (MaySet pause first c c ts at event a.moment a.roles) a b
+    by_there true is =
+        only_weaker (IsTellingBefore WriteComplete first at a.roles)
+        (MaySet pause first c c ts at event a.moment a.roles) a b (λ p h. inr (inl (h, λ before. is, ended)))
+        (telling first named)
+    by_there false is = only_same (MaySet pause first c c ts at event a.moment a.roles) a b
+        (ap (λ x. x.log.state.pending) (quiet is))
 
 -- or an error was passed on to it
 pub may_pass : {P : Type 0} (pause : P → ℕ) (old new : ChainState P) (ts : List (Option StageContinuation))

@@ -1,27 +1,31 @@
--- Which continuations have passed an error on.
-use Rattle.std.proofs.Common.{◌≡◌, ◌≤◌, ◌+◌, length, ℕ, zero, suc, List, [], ◌∷◌, true, false, Option, Some, None, if◌then◌else◌, arith, refl, sym, ap, ◌∙◌}
+-- Which continuations have passed an error on, and how many calls they may still make upstream.
+use Rattle.std.proofs.Common.{◌≡◌, ◌≤◌, ◌+◌, inl, inr, length, ℕ, zero, suc, List, [], ◌∷◌, Bool, true, false, not, Option, Some, None, if◌then◌else◌, arith, refl, sym, ap, ◌∙◌}
 use Rattle.ts_journal.specs.declared.entry.Pending.{Pending}
 use Rattle.ts_group.specs.declared.action.Named.{Named}
 use Rattle.ts_group.specs.Context.{Context}
 use Rattle.ts_transform.specs.declared.continuation.StageContinuation.{StageContinuation}
 use Rattle.ts_transform.specs.Flow.{ChainState}
-use Rattle.ts_transform.specs.Driving.{IsOfStageIf, AreOfStages, IsRousedIf, IsRoused, unroused, all_unroused, error_passed, gone, changed, may_pass_error, may_pass_error_at, errors_to_pass}
+use Rattle.ts_transform.specs.Driving.{HasNobodyToTell, IsOfStageIf, AreOfStages, IsRousedIf, IsRoused, unroused, all_unroused, calls_of, error_passed, gone, changed, is_there, is_there_at, is_there_before, may_pass_error, may_pass_error_at, upstream_calls}
 use Rattle.ts_transform.specs.Cover.{IsDriven}
-use Rattle.ts_transform.specs.Acting.{PaysErrors}
+use Rattle.ts_transform.specs.Acting.{GivesUpCall}
 use Rattle.ts_transform.proofs.Handled.{length-changed}
 
 unroused_may_pass : (t : Option StageContinuation) → may_pass_error (unroused t) ≡ may_pass_error t
 unroused_may_pass None = refl
 unroused_may_pass (Some t) = refl
 
--- they are as many, whoever is roused
-of_unroused : (ts : List (Option StageContinuation)) → errors_to_pass (all_unroused ts) ≡ errors_to_pass ts
-of_unroused [] = refl
-of_unroused (t ∷ ts) = rw (unroused_may_pass t, of_unroused ts) refl
+unroused_calls : (t : Option StageContinuation) → calls_of (unroused t) ≡ calls_of t
+unroused_calls None = refl
+unroused_calls (Some t) = refl
 
-pub errors_same : (ts us : List (Option StageContinuation)) → all_unroused us ≡ all_unroused ts
-    → errors_to_pass us ≡ errors_to_pass ts
-errors_same ts us same = sym (of_unroused us) ∙ ap errors_to_pass same ∙ of_unroused ts
+-- they may make as many calls, whoever is roused
+of_unroused : (ts : List (Option StageContinuation)) → upstream_calls (all_unroused ts) ≡ upstream_calls ts
+of_unroused [] = refl
+of_unroused (t ∷ ts) = rw (unroused_calls t, of_unroused ts) refl
+
+pub calls_same : (ts us : List (Option StageContinuation)) → all_unroused us ≡ all_unroused ts
+    → upstream_calls us ≡ upstream_calls ts
+calls_same ts us same = sym (of_unroused us) ∙ ap upstream_calls same ∙ of_unroused ts
 
 at_unroused : (ts : List (Option StageContinuation)) (at : ℕ)
     → may_pass_error_at (all_unroused ts) at ≡ may_pass_error_at ts at
@@ -34,45 +38,103 @@ pub may_pass_same : (ts us : List (Option StageContinuation)) (at : ℕ) → all
 may_pass_same ts us at same = sym (at_unroused us at) ∙ ap (λ vs. may_pass_error_at vs at) same ∙ at_unroused
     ts at
 
-passed_is : (t : Option StageContinuation) → may_pass_error (error_passed t) ≡ false
-passed_is None = refl
-passed_is (Some t) = refl
+-- one that passes an error on has one call less to make
+passed_one : (t : Option StageContinuation) → may_pass_error t ≡ true
+    → calls_of (error_passed t) + 1 ≡ calls_of t
+passed_one None is = absurd (let wrong : false ≡ true = is in cc)
+passed_one (Some t) is = by_flag t.passed_error is
+  where
+    by_flag : (b : Bool) → not b ≡ true → ◌≡◌ {A = ℕ} 2 (if b then 1 else 2)
+    by_flag true is = absurd (let wrong : false ≡ true = is in cc)
+    by_flag false is = refl
 
--- one that passes an error on counts no more
+passed_none : (t : Option StageContinuation) → may_pass_error t ≡ false
+    → calls_of (error_passed t) ≡ calls_of t
+passed_none None is = refl
+passed_none (Some t) is = by_flag t.passed_error is
+  where
+    by_flag : (b : Bool) → not b ≡ false → ◌≡◌ {A = ℕ} 1 (if b then 1 else 2)
+    by_flag true is = refl
+    by_flag false is = absurd (let wrong : true ≡ false = is in cc)
+
 passed_falls : (ts : List (Option StageContinuation)) (at : ℕ) → may_pass_error_at ts at ≡ true
-    → errors_to_pass (changed error_passed ts at) + 1 ≡ errors_to_pass ts
+    → upstream_calls (changed error_passed ts at) + 1 ≡ upstream_calls ts
 passed_falls [] at is = absurd (let wrong : false ≡ true = is in cc)
-passed_falls (t ∷ ts) zero is = rw (passed_is t, is) (omega arith)
+passed_falls (t ∷ ts) zero is = omega (arith, passed_one t is)
 passed_falls (t ∷ ts) (suc at) is = omega (arith, passed_falls ts at is)
 
 passed_stays : (ts : List (Option StageContinuation)) (at : ℕ) → may_pass_error_at ts at ≡ false
-    → errors_to_pass (changed error_passed ts at) ≡ errors_to_pass ts
+    → upstream_calls (changed error_passed ts at) ≡ upstream_calls ts
 passed_stays [] at is = refl
-passed_stays (t ∷ ts) zero is = rw (passed_is t, is) refl
-passed_stays (t ∷ ts) (suc at) is = ap (λ n. (if may_pass_error t then 1 else 0) + n) (passed_stays ts at is)
+passed_stays (t ∷ ts) zero is = ap (λ n. n + upstream_calls ts) (passed_none t is)
+passed_stays (t ∷ ts) (suc at) is = ap (λ n. calls_of t + n) (passed_stays ts at is)
 
 pub passed_less : (ts us : List (Option StageContinuation)) (at : ℕ) → us ≡ changed error_passed ts at
-    → may_pass_error_at ts at ≡ true → errors_to_pass us + 1 ≡ errors_to_pass ts
-passed_less ts us at is first = ap (λ vs. errors_to_pass vs + 1) is ∙ passed_falls ts at first
+    → may_pass_error_at ts at ≡ true → upstream_calls us + 1 ≡ upstream_calls ts
+passed_less ts us at is first = ap (λ vs. upstream_calls vs + 1) is ∙ passed_falls ts at first
 
 pub passed_same : (ts us : List (Option StageContinuation)) (at : ℕ) → us ≡ changed error_passed ts at
-    → may_pass_error_at ts at ≡ false → errors_to_pass us ≡ errors_to_pass ts
-passed_same ts us at is before = ap errors_to_pass is ∙ passed_stays ts at before
+    → may_pass_error_at ts at ≡ false → upstream_calls us ≡ upstream_calls ts
+passed_same ts us at is before = ap upstream_calls is ∙ passed_stays ts at before
 
--- nor does one that was destroyed
+-- one that was destroyed makes none
 gone_at : (ts : List (Option StageContinuation)) (at : ℕ)
-    → errors_to_pass (changed gone ts at) ≤ errors_to_pass ts
+    → upstream_calls (changed gone ts at) ≤ upstream_calls ts
 gone_at [] at = omega arith
 gone_at (t ∷ ts) zero = omega arith
 gone_at (t ∷ ts) (suc at) = omega (arith, gone_at ts at)
 
 pub gone_fewer : (ts us : List (Option StageContinuation)) (at : ℕ) → us ≡ changed gone ts at
-    → errors_to_pass us ≤ errors_to_pass ts
-gone_fewer ts us at is = omega (arith, ap errors_to_pass is, gone_at ts at)
+    → upstream_calls us ≤ upstream_calls ts
+gone_fewer ts us at is = omega (arith, ap upstream_calls is, gone_at ts at)
 
-pub gone_pays : (ts us : List (Option StageContinuation)) (at : ℕ) (a b : Context) → us ≡ changed gone ts at
-    → length b.log.state.pending ≤ length a.log.state.pending → PaysErrors ts us a b
-gone_pays ts us at a b is count = omega (arith, gone_fewer ts us at is, count)
+some_calls : (t : StageContinuation) → 1 ≤ calls_of (Some t)
+some_calls t = by_flag t.passed_error
+  where
+    by_flag : (b : Bool) → 1 ≤ (if b then 1 else 2)
+    by_flag true = omega arith
+    by_flag false = omega arith
+
+there_falls : (ts : List (Option StageContinuation)) (at : ℕ) → is_there_at ts at ≡ true
+    → upstream_calls (changed gone ts at) + 1 ≤ upstream_calls ts
+there_falls [] at is = absurd (let wrong : false ≡ true = is in cc)
+there_falls (None ∷ ts) zero is = absurd (let wrong : false ≡ true = is in cc)
+there_falls (Some t ∷ ts) zero is = omega (arith, some_calls t)
+there_falls (t ∷ ts) (suc at) is = omega (arith, there_falls ts at is)
+
+pub gives_up : (ts us : List (Option StageContinuation)) (at : ℕ) (a b : Context) → us ≡ changed gone ts at
+    → length b.log.state.pending ≤ length a.log.state.pending → GivesUpCall ts us at a b
+gives_up ts us at a b is count = record {
+  pending = count;
+  calls = gone_fewer ts us at is;
+  fewer = λ there. omega (arith, ap upstream_calls is, there_falls ts at there);
+}
+
+-- who is there is so whether it is roused or not
+there_one : (t : Option StageContinuation) → is_there (Some (unroused t)) ≡ is_there (Some t)
+there_one None = refl
+there_one (Some t) = refl
+
+there_unroused : (ts : List (Option StageContinuation)) (at : ℕ)
+    → is_there_at (all_unroused ts) at ≡ is_there_at ts at
+there_unroused [] at = refl
+there_unroused (t ∷ ts) zero = there_one t
+there_unroused (t ∷ ts) (suc at) = there_unroused ts at
+
+pub there_same : (ts us : List (Option StageContinuation)) (at : ℕ) → all_unroused us ≡ all_unroused ts
+    → is_there_at us at ≡ is_there_at ts at
+there_same ts us at same = sym (there_unroused us at) ∙ ap (λ vs. is_there_at vs at) same ∙ there_unroused ts
+    at
+
+before_same : (ts us : List (Option StageContinuation)) (at : ℕ) → all_unroused us ≡ all_unroused ts
+    → is_there_before us at ≡ is_there_before ts at
+before_same ts us zero same = refl
+before_same ts us (suc at) same = there_same ts us at same
+
+pub nobody_same : (ts us : List (Option StageContinuation)) (at : ℕ) → all_unroused us ≡ all_unroused ts
+    → HasNobodyToTell ts at → HasNobodyToTell us at
+nobody_same ts us at same (inl none) = inl (there_same ts us at same ∙ none)
+nobody_same ts us at same (inr none) = inr (before_same ts us at same ∙ none)
 
 passed_if : (pending : List Pending) (roles : List Named) (role : ℕ) (t : Option StageContinuation)
     → IsOfStageIf pending roles role t → IsOfStageIf pending roles role (error_passed t)

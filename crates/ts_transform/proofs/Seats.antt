@@ -20,12 +20,9 @@ use Rattle.ts_transform.proofs.Seating.{key_beside, key_gone, seat_of}
 use Rattle.ts_transform.specs.Destroying.{Clears, KeepsOwn, KeepsOutside}
 use Rattle.ts_transform.proofs.Closing.{lost_if}
 use Rattle.ts_transform.proofs.Kept.{acts_lessens, few_trans}
-use Rattle.ts_transform.proofs.Setting.{lessens_less, lessens_none}
+use Rattle.ts_transform.proofs.Setting.{less_same, lessens_less, lessens_none}
 
 -- nothing is done
-less_same : (a : Context) → IsLess a.log.state a.log.state
-less_same a = record { from = λ n p there. there; next = refl; plain = λ plain. plain; count = omega arith }
-
 keeps_own_same : (role : ℕ) (t : Option StageContinuation) (a : Context) → IsNamedIf a.roles role t
     → KeepsOwn role t a a
 keeps_own_same role t a named = record { named = named; of_stage = λ h. h; live = λ h. h }
@@ -146,6 +143,7 @@ lessens_then a m b less h k = record {
   plain = λ plain. k.plain (h.plain plain);
   few = few_trans 0 0 h.few k.few;
   none = λ n p none some. let wrong : None ≡ Some p = sym none ∙ less.from n p some in cc;
+  less = less;
 }
 
 names_kept : (first role : ℕ) (t : Option StageContinuation) (us : List (Option StageContinuation))

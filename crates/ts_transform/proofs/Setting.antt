@@ -37,6 +37,11 @@ only_trans Such a b c first keeps second n p none some = by_middle (pending_at n
     by_middle (Some q) is = subst Such (let both : Some q ≡ Some p = sym (keeps.pending n q is) ∙ some in cc)
         (first n q none is)
 
+-- the last of which sets nothing
+pub only_less : (Such : Pending → Type 0) (a b c : Context) → SetsOnly Such a b → Lessens b c
+    → SetsOnly Such a c
+only_less Such a b c first less n p none some = first n p none (less.less.from n p some)
+
 pub only_weaker : (Such Other : Pending → Type 0) (a b : Context) → ((p : Pending) → Such p → Other p)
     → SetsOnly Such a b → SetsOnly Other a b
 only_weaker Such Other a b weaker only n p none some = weaker p (only n p none some)
@@ -98,7 +103,11 @@ lessens_less a b grows turn less = record {
   plain = less.plain;
   few = record { next = omega (arith, less.next); pending = omega (arith, less.count) };
   none = λ n p none some. let wrong : None ≡ Some p = sym none ∙ less.from n p some in cc;
+  less = less;
 }
+
+pub less_same : (a : Context) → IsLess a.log.state a.log.state
+less_same a = record { from = λ n p there. there; next = refl; plain = λ plain. plain; count = omega arith }
 
 pub lessens_none : (a : Context) → a.log.state.held ≡ true → Lessens a a
 lessens_none a turn = record {
@@ -107,6 +116,7 @@ lessens_none a turn = record {
   plain = λ plain. plain;
   few = few_refl a 0;
   none = only_none (λ p. ⊥) a;
+  less = less_same a;
 }
 
 -- an event of a continuation is one of its role

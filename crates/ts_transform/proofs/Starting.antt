@@ -1,12 +1,12 @@
 -- A chain's world as it begins.
-use Rattle.std.proofs.Common.{◌≡◌, ℕ, zero, suc, ◌+◌, List, [], ◌∷◌, ◌++◌, Bool, true, false, Option, Some, None, length, map, arith, sym, ap, subst, ◌∙◌}
+use Rattle.std.proofs.Common.{◌≡◌, ◌<◌, ℕ, zero, suc, ◌+◌, List, [], ◌∷◌, ◌++◌, Bool, true, false, Option, Some, None, length, arith, sym, ap, ◌∙◌}
 use Rattle.ts_journal.specs.State.{State, pending_at}
 use Rattle.ts_group.specs.Context.{Context, role_at}
 use Rattle.ts_group.specs.Changes.{SameEvents, KeepsKeys}
 use Rattle.ts_transform.specs.declared.continuation.StageContinuation.{StageContinuation}
 use Rattle.ts_transform.specs.declared.pump.Stage.{Stage}
 use Rattle.ts_transform.specs.Stage.{has_ended}
-use Rattle.ts_transform.specs.Flow.{ChainState, HasWork, OnlyFirstWorks, MustPump, fresh_stage}
+use Rattle.ts_transform.specs.Flow.{ChainState, MustPump, MustWork}
 use Rattle.ts_transform.specs.Driving.{IsOfStageIf, AreOfStages, IsRoused}
 use Rattle.ts_transform.specs.Cover.{IsDriven}
 
@@ -58,36 +58,20 @@ made_all a b events keys role (u ∷ ts) t named same (here, others) = (
       (named ∙ ap Some (omega arith)) same others,
 )
 
--- a stage that must work has work
-must-work : {P : Type 0} (up : Bool) (from : List ℕ) (ss : List (Stage P)) (at : ℕ) → MustPump up from ss at
-    → HasWork up from ss at
-must-work up from [] at must = must
-must-work up from (s ∷ ss) zero (work, room) = work
-must-work up from (s ∷ ss) (suc at) must = must-work (has_ended s) s.after ss at must
+-- a stage that must work is one of the chain's
+must-within : {P : Type 0} (up : Bool) (from : List ℕ) (ss : List (Stage P)) (at : ℕ) → MustPump up from ss at
+    → at < length ss
+must-within up from [] at must = absurd must
+must-within up from (s ∷ ss) zero must = omega arith
+must-within up from (s ∷ ss) (suc at) must = omega (arith, must-within (has_ended s) s.after ss at must)
 
--- where only the first stage may have work and that is roused if it must work, all are driven
+-- where each stage of the chain is roused that must work, all are driven
 pub begun : {P : Type 0} (first : ℕ) (a : Context) (c : ChainState P) (ts : List (Option StageContinuation))
     → length ts ≡ length c.stages → AreOfStages a.log.state.pending a.roles first ts
-    → (MustPump c.given c.first c.stages 0 → IsRoused ts 0) → OnlyFirstWorks c
+    → ((j : ℕ) → j < length c.stages → MustWork c j → IsRoused ts j)
     → IsDriven first c ts a.log.state.pending a.roles
-begun {P} first a c ts len of_stages ready fresh = record { len = len; of_stages = of_stages; cover = cover }
-  where
-    cover : (j : ℕ) → MustPump c.given c.first c.stages j → IsRoused ts j
-    cover zero must = ready must
-    cover (suc j) must =
-        let next : suc j ≡ j + 1 = omega arith in
-        absurd (fresh j (subst (HasWork c.given c.first c.stages) next
-        (must-work c.given c.first c.stages (suc j) must)))
-
--- no stage of a chain that is made has work but the first
-fresh-rests : {P : Type 0} (ps : List P) (at : ℕ) → HasWork false [] (map fresh_stage ps) at → ⊥
-fresh-rests [] at work = work
-fresh-rests (p ∷ ps) zero work = let wrong : false ≡ true = work in cc
-fresh-rests (p ∷ ps) (suc at) work = fresh-rests ps at work
-
-pub fresh-first : {P : Type 0} (given : Bool) (first : List ℕ) (ps : List P) (j : ℕ)
-    → HasWork given first (map fresh_stage ps) (j + 1) → ⊥
-fresh-first given first [] j work = work
-fresh-first given first (p ∷ ps) j work =
-    let next : j + 1 ≡ suc j = omega arith in fresh-rests ps j
-    (subst (HasWork given first (map fresh_stage (p ∷ ps))) next work)
+begun first a c ts len of_stages ready = record {
+  len = len;
+  of_stages = of_stages;
+  cover = λ j must. ready j (must-within c.given c.first c.stages j must) must;
+}

@@ -1,6 +1,6 @@
 -- What is left of a chain's world when its client takes bytes, when it is aborted, and when nothing is
 -- pending.
-use Rattle.std.proofs.Common.{◌≡◌, ◌≢◌, ℕ, zero, suc, ◌+◌, ◌<◌, ◌≤◌, ◌⊎◌, inl, inr, List, [], ◌∷◌, ◌++◌, Bool, true, false, Option, Some, None, is_none, nat_le, length, length-drop, map, arith, refl, sym, ap, subst, ◌∙◌}
+use Rattle.std.proofs.Common.{◌≡◌, ℕ, zero, suc, ◌+◌, ◌<◌, ◌≤◌, ◌⊎◌, inl, inr, List, [], ◌∷◌, ◌++◌, Bool, true, false, Option, Some, None, is_none, nat_le, length, length-drop, map, arith, refl, sym, ap, subst, ◌∙◌}
 use Rattle.std.proofs.lemmas.List.{append-nil}
 use Rattle.std.proofs.lemmas.Bool.Decides.{leb_tells}
 use Rattle.ts_journal.specs.declared.entry.Pending.{Pending}
@@ -8,42 +8,31 @@ use Rattle.ts_group.specs.declared.action.Named.{Named}
 use Rattle.ts_group.specs.Context.{AllPlain}
 use Rattle.ts_transform.specs.declared.continuation.StageContinuation.{StageContinuation}
 use Rattle.ts_transform.specs.declared.pump.Stage.{Stage}
-use Rattle.ts_transform.specs.Stage.{has_ended, has_work, passed}
-use Rattle.ts_transform.specs.Flow.{ChainState, HasWork, MustPump, Takes, closed, aborted, ended_at, flow, flow_from, last_wait, last_ended, fresh_stage, IsFinished}
+use Rattle.ts_transform.specs.Stage.{has_ended, has_work, needs_no_more}
+use Rattle.ts_transform.specs.Flow.{ChainState, MustPump, Takes, chain_of, closed, aborted, ended_at, flow, last_wait, IsFinished}
 use Rattle.ts_transform.specs.Driving.{HasEvent, AreOfStages, IsRoused}
 use Rattle.ts_transform.specs.Cover.{IsAwake, IsDriven}
 use Rattle.ts_transform.specs.World.{IsCovered}
-use Rattle.ts_transform.proofs.Boundaries.{rest_of-ended}
-use Rattle.ts_lists.proofs.Cases.{split}
-use Rattle.ts_lists.proofs.Sizes.{longer_not_empty}
-use Rattle.ts_transform.proofs.Starting.{fresh-first}
+use Rattle.ts_transform.proofs.Resting.{ended-rests, flow_from-rests}
 
 -- a world that is made is sound
-pub made_sound : {P : Type 0} (first : List ℕ) (ps : List P) (c : ChainState P)
+pub made_sound : {P : Type 0} (first : List ℕ) (ss : List (Stage P)) (c : ChainState P)
     (ts : List (Option StageContinuation)) (running : Bool) (pending : List Pending) (roles : List Named)
-    → c ≡ record { first = first; stages = map fresh_stage ps; given = true } → running ≡ false
+    → c ≡ chain_of true first ss → running ≡ false
     → AllPlain pending → IsCovered c ts running pending roles
-made_sound {P} first ps c ts running pending roles is still plain = record {
+made_sound {P} first ss c ts running pending roles is still plain = record {
   given = ap (λ d. d.given) is;
   plain = plain;
   driven = λ runs. absurd (let wrong : true ≡ false = sym runs ∙ still in cc);
-  fresh = λ none j work. fresh-first true first ps j
-      (subst (λ d. HasWork d.given d.first d.stages (j + 1)) is work);
 }
 
--- a stage has work after bytes were taken if it had before
-takes-work : {P : Type 0} (up : Bool) (from : List ℕ) (s : Stage P) (ss : List (Stage P)) (n : ℕ)
-    (from' : List ℕ) (ss' : List (Stage P)) → Takes from (s ∷ ss) n from' ss'
-    → (j : ℕ) → HasWork up from' ss' j → HasWork up from (s ∷ ss) j
-takes-work up from s ss n from' [] takes j work = absurd work
-takes-work up from s ss n from' (s' ∷ ss') (before, part, takes) zero work =
-    ap (λ l. has_work (has_ended s) up l) (sym before) ∙ ap (λ p. has_work (is_none p) up from') (sym part) ∙
-    work
-takes-work up from s [] n from' (s' ∷ ss') (before, part, takes) (suc j) work = absurd
-    (subst (λ us. HasWork (has_ended s') s'.after us j) takes.1 work)
-takes-work up from s (t ∷ ss) n from' (s' ∷ ss') (before, part, takes) (suc j) work =
-    takes-work (has_ended s) s.after t ss n s'.after ss' takes j
-    (subst (λ p. HasWork (is_none p) s'.after ss' j) part work)
+-- a stage that has work after bytes were taken had it before
+still-works : {P : Type 0} (up : Bool) (from from' : List ℕ) (s s' : Stage P)
+    → from' ≡ from → s'.part ≡ s.part → has_work (has_ended s') (needs_no_more up s'.part) from' ≡ true
+    → has_work (has_ended s) (needs_no_more up s.part) from ≡ true
+still-works up from from' s s' before part work =
+    ap (λ l. has_work (has_ended s) (needs_no_more up s.part) l) (sym before)
+    ∙ ap (λ p. has_work (is_none p) (needs_no_more up p) from') (sym part) ∙ work
 
 -- a stage that must work then had to before, or is the last, has not ended and was full
 takes-must : {P : Type 0} (up : Bool) (from : List ℕ) (s : Stage P) (ss : List (Stage P)) (n : ℕ)
@@ -55,25 +44,23 @@ takes-must up from s ss n from' [] takes j must = absurd must
 takes-must {P} up from s [] n from' (s' ∷ ss') (before, part, takes) zero (work, room) = by_room
     (leb_tells 65536 (length s.after))
   where
-    worked : has_work (has_ended s) up from ≡ true
-    worked = ap (λ l. has_work (has_ended s) up l) (sym before) ∙ ap (λ p. has_work (is_none p) up from')
-        (sym part) ∙ work
+    worked : has_work (has_ended s) (needs_no_more up s.part) from ≡ true
+    worked = still-works up from from' s s' before part work
 
-    goes : (e : Bool) → has_work e up from ≡ true → e ≡ false
-    goes true w = absurd (let wrong : false ≡ true = w in cc)
-    goes false w = refl
+    goes : (e up : Bool) → has_work e up from ≡ true → e ≡ false
+    goes true up w = absurd (let wrong : false ≡ true = w in cc)
+    goes false up w = refl
 
     by_room : ((nat_le 65536 (length s.after) ≡ true) × (65536 ≤ length s.after)) ⊎
         ((nat_le 65536 (length s.after) ≡ false) × (length s.after < 65536))
         → MustPump up from (s ∷ []) zero ⊎ ((zero + 1 ≡ length (s ∷ [])) × (ended_at (s ∷ []) zero ≡ false) ×
         (65536 ≤ length s.after))
-    by_room (inl (t, full)) = inr (omega arith, goes (has_ended s) worked, full)
+    by_room (inl (t, full)) = inr (omega arith, goes (has_ended s) (needs_no_more up s.part) worked, full)
     by_room (inr (t, short)) = inl (worked, short)
 takes-must up from s (t ∷ ss) n from' (s' ∷ []) (before, part, takes) zero (work, room) = absurd takes
 takes-must up from s (t ∷ ss) n from' (s' ∷ u ∷ us) (before, part, takes) zero (work, room) =
     inl (
-      ap (λ l. has_work (has_ended s) up l) (sym before) ∙ ap (λ p. has_work (is_none p) up from')
-          (sym part) ∙ work,
+      still-works up from from' s s' before part work,
       subst (λ l. length l < 65536) takes.0 room,
     )
 takes-must up from s [] n from' (s' ∷ ss') (before, part, takes) (suc j) must = absurd
@@ -131,13 +118,6 @@ taken-roused {P} given from (s ∷ ss) n from' ss' ts takes cover awake j must =
     by_place (inl before) = cover j before
     by_place (inr (place, goes, full)) = awake j place goes full
 
-taken-fresh : {P : Type 0} (given : Bool) (from : List ℕ) (ss : List (Stage P)) (n : ℕ) (from' : List ℕ)
-    (ss' : List (Stage P)) → Takes from ss n from' ss'
-    → (j : ℕ) → HasWork given from' ss' j → HasWork given from ss j
-taken-fresh given from [] n from' ss' takes j work = absurd
-    (subst (λ us. HasWork given from' us j) takes.1 work)
-taken-fresh given from (s ∷ ss) n from' ss' takes j work = takes-work given from s ss n from' ss' takes j work
-
 -- a sound world is sound when its client has taken bytes
 pub taken_sound : {P : Type 0} (c d : ChainState P) (ts : List (Option StageContinuation)) (running : Bool)
     (n : ℕ) (pending : List Pending) (roles : List Named)
@@ -152,8 +132,6 @@ taken_sound c d ts running n pending roles takes given s awake = record {
     cover = λ j must. taken-roused c.given c.first c.stages n d.first d.stages ts takes h.cover (awake runs) j
         (subst (λ b. MustPump b d.first d.stages j) given must);
   };
-  fresh = λ none j work. s.fresh none j (taken-fresh c.given c.first c.stages n d.first d.stages takes (j + 1)
-      (subst (λ b. HasWork b d.first d.stages (j + 1)) given work));
 }
 
 -- the last stage stays awake
@@ -181,12 +159,6 @@ taken_awake c d ts n takes awake j place goes full =
     (omega (arith, full, still-full c.first c.stages n d.first d.stages takes))
 
 -- a closed stage has no work
-closed-rests : {P : Type 0} (up : Bool) (from : List ℕ) (ss : List (Stage P)) (j : ℕ)
-    → HasWork up from (map closed ss) j → ⊥
-closed-rests up from [] j work = work
-closed-rests up from (s ∷ ss) zero work = let wrong : false ≡ true = work in cc
-closed-rests up from (s ∷ ss) (suc j) work = closed-rests true [] ss j work
-
 closed-idle : {P : Type 0} (up : Bool) (from : List ℕ) (ss : List (Stage P)) (j : ℕ)
     → MustPump up from (map closed ss) j → ⊥
 closed-idle up from [] j must = must
@@ -218,7 +190,6 @@ aborted_sound c d ts running pending roles is s = subst (λ x. IsCovered x ts ru
       given = refl;
       plain = s.plain;
       driven = λ runs. aborted_driven 1 c (aborted c) ts pending roles refl (s.driven runs);
-      fresh = λ none j work. closed-rests true [] c.stages (j + 1) work;
     })
 
 -- nor has it a last stage that must be woken
@@ -241,53 +212,6 @@ none-roused roles role (Some t ∷ ts) zero (here, others) roused =
     let e : HasEvent [] t.key = here.event roused in let wrong : None ≡ Some e.event = e.there in cc
 none-roused roles role (t ∷ ts) (suc j) (here, others) roused = none-roused roles (role + 1) ts j others
     roused
-
--- a stage that has not ended and gets something, or nothing more, has work
-gets-work : (e up : Bool) (from : List ℕ) → e ≡ false → (up ≡ true) ⊎ (from ≢ []) → has_work e up from ≡ true
-gets-work true up from goes input = absurd (let wrong : true ≡ false = goes in cc)
-gets-work false true from goes input = refl
-gets-work false false from goes (inl ended) = absurd (let wrong : false ≡ true = ended in cc)
-gets-work false false [] goes (inr some) = absurd (some refl)
-gets-work false false (b ∷ bs) goes (inr some) = refl
-
--- so if it need not work, it is full
-pub full-else : (n : ℕ) → (n < 65536 → ⊥) → 65536 ≤ n
-full-else n not_short = by_room (leb_tells 65536 n)
-  where
-    by_room : ((nat_le 65536 n ≡ true) × (65536 ≤ n)) ⊎ ((nat_le 65536 n ≡ false) × (n < 65536)) → 65536 ≤ n
-    by_room (inl (t, long)) = long
-    by_room (inr (t, short)) = absurd (not_short short)
-
--- Nothing comes out of stages none of which must work, where nothing waits for the client.
-flow_from-rests : {P : Type 0} (rest : P → List ℕ → List ℕ) (up : Bool) (from : List ℕ) (ss : List (Stage P))
-    (v : List ℕ)
-    → (up ≡ true) ⊎ (from ≢ []) → ((j : ℕ) → MustPump up from ss j → ⊥) → last_wait from ss ≡ []
-    → (up ≡ true → v ≡ from) → flow_from rest ss v ≡ []
-flow_from-rests rest up from [] v (inl ended) rests none same = same ended ∙ none
-flow_from-rests rest up from [] v (inr some) rests none same = absurd (some none)
-flow_from-rests rest up from (s ∷ ss) v input rests none same =
-    split (has_ended s) (λ b. flow_from rest (s ∷ ss) v ≡ [])
-    (λ ended. flow_from-rests rest (has_ended s) s.after ss (passed rest s v) (inl ended)
-    (λ j must. rests (suc j) must) none
-    (λ _. ap (λ l. s.after ++ l) (rest_of-ended rest s.part v ended) ∙ append-nil s.after))
-    (λ goes. flow_from-rests rest (has_ended s) s.after ss (passed rest s v)
-    (inr (longer_not_empty 65535 s.after (full-else (length s.after)
-    (λ short. rests 0 (gets-work (has_ended s) up from goes input, short)))))
-    (λ j must. rests (suc j) must) none (λ ended. absurd (let wrong : false ≡ true = sym goes ∙ ended in cc)))
-
--- and the last of them has ended
-pub ended-rests : {P : Type 0} (up : Bool) (from : List ℕ) (ss : List (Stage P))
-    → (up ≡ true) ⊎ (from ≢ []) → ((j : ℕ) → MustPump up from ss j → ⊥) → last_wait from ss ≡ []
-    → last_ended up ss ≡ true
-ended-rests up from [] (inl ended) rests none = ended
-ended-rests up from [] (inr some) rests none = absurd (some none)
-ended-rests up from (s ∷ ss) input rests none =
-    split (has_ended s) (λ b. last_ended up (s ∷ ss) ≡ true)
-    (λ ended. ended-rests (has_ended s) s.after ss (inl ended) (λ j must. rests (suc j) must) none)
-    (λ goes. ended-rests (has_ended s) s.after ss
-    (inr (longer_not_empty 65535 s.after (full-else (length s.after)
-    (λ short. rests 0 (gets-work (has_ended s) up from goes input, short)))))
-    (λ j must. rests (suc j) must) none)
 
 -- So a world that runs has given all once nothing is pending and nothing waits for its client.
 pub all_given : {P : Type 0} (rest : P → List ℕ → List ℕ) (c : ChainState P)

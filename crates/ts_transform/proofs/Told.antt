@@ -13,7 +13,7 @@ pub moved_goes : {P : Type 0} (rest : P → List ℕ → List ℕ) (from : List 
 moved_goes rest from [] at n from' ss' h = absurd h
 moved_goes rest from (s ∷ ss) at n from' [] h = absurd h
 moved_goes rest from (s ∷ ss) zero n from' (s' ∷ ss') h = h.0.1
-moved_goes rest from (s ∷ ss) (suc at) n from' (s' ∷ ss') h = moved_goes rest s.after ss at n s'.after ss' h.2
+moved_goes rest from (s ∷ ss) (suc at) n from' (s' ∷ ss') h = moved_goes rest s.after ss at n s'.after ss' h.1
 
 -- a stage whose event was handled has the continuation that it had
 pub unroused_key : (b : Bool) (ts : List (Option StageContinuation)) (at : ℕ) (t : StageContinuation)

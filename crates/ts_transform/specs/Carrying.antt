@@ -14,8 +14,8 @@ use Rattle.ts_journal.specs.Log.{GoesOn, Log}
 use Rattle.ts_link.specs.Counts.{Rose}
 use Rattle.ts_link.specs.Link.{Look}
 use Rattle.ts_transform.specs.Stage.{MOST_WAITING}
-use Rattle.ts_transform.specs.Flow.{ChainState, EndsInOrder, MustRead, MustWrite, OnlyFirstWorks, flow}
-use Rattle.ts_transform.specs.Driving.{HasLiveIf, IsHandled, IsNamedIf, IsOfStageIf, IsRousedIf, IsRousingOf, Keeps, SetsFew, SetsOnly}
+use Rattle.ts_transform.specs.Flow.{ChainState, EndsInOrder, MustRead, MustWrite, flow, wants}
+use Rattle.ts_transform.specs.Driving.{HasLiveIf, IsHandled, IsNamedIf, IsOfStageIf, IsRousedIf, IsRousingOf, Keeps, SetsFew, SetsOnly, most_for_ends}
 use Rattle.ts_transform.specs.Cover.{IsDriven}
 use Rattle.ts_transform.specs.Driven.{HasAllLive, IsOfNoStage, MayLose}
 use Rattle.ts_transform.specs.declared.continuation.StageContinuation.{StageContinuation}
@@ -30,6 +30,10 @@ use Rattle.ts_transform.specs.declared.loss.Loss.{Loss}
 use Rattle.ts_transform.specs.declared.loss.Loss.TheVariants.{NoMemory, Spent}
 use Rattle.ts_transform.specs.Loss.{IsCauseOf, loss_of}
 
+-- nothing more comes to a chain: its end was given, or it wants no more
+abbrev pub GetsNoMore : {P : Type 0} → ChainState P → Type 0
+GetsNoMore c = (c.given ≡ true) ⊎ (wants c ≡ false)
+
 -- The input gave some bytes and the output took some, and what the chain still gives is that much further on:
 -- for whatever still comes before its end was given, and for nothing from then on.
 pub record Carries {P : Type 0} (rest : P → List ℕ → List ℕ) (in_tells out_tells : Bool) (i j o p : Look)
@@ -39,22 +43,23 @@ pub record Carries {P : Type 0} (rest : P → List ℕ → List ℕ) (in_tells o
   pub given : in_tells ≡ true → j.given ≡ i.given ++ gave
   pub taken : out_tells ≡ true → p.taken ≡ o.taken ++ took
   pub flow : (z : List ℕ) → OnTrue d.given (z ≡ []) → flow rest c (gave ++ z) ≡ took ++ flow rest d z
-  -- once its end was given nothing comes, and it stays given
+  -- once its end was given nothing comes, and it stays given; and so it is once the chain wants no more
   pub closed : c.given ≡ true → (gave ≡ []) × (d.given ≡ true)
+  pub early : wants c ≡ false → (gave ≡ []) × (wants d ≡ false)
 
 -- What a step moves, unless the chain was aborted: that is only for a fault of a link or for want of memory.
--- Its end is given only where the input has ended, which is read no more then. Before the first stage fewer
--- bytes wait than fill it up and one read more brings.
+-- Its end is given only where the input has ended. The input is read no more from then on, nor once the chain
+-- wants no more. Before the first stage fewer bytes wait than fill it up and one read more brings.
 pub record MovesOn {P : Type 0} (rest : P → List ℕ → List ℕ) (in_tells out_tells : Bool) (i j o p : Look)
     (c d : ChainState P) (was now : Bool) (lacks : Type 0) : Type 0 where
   pub carries : now ≡ false → Carries rest in_tells out_tells i j o p c d
   pub aborts : was ≡ false → now ≡ true → lacks ⊎ Rose i.faults j.faults ⊎ Rose o.faults p.faults
   pub stays : was ≡ true → now ≡ true
   pub ends : now ≡ false → c.given ≡ false → d.given ≡ true → in_tells ≡ true → j.left ≡ []
-  pub still : now ≡ false → c.given ≡ true → j ≡ i
+  pub still : now ≡ false → GetsNoMore c → j ≡ i
   pub counts : (i.faults ≤ j.faults) × (o.faults ≤ p.faults)
   pub bounded : length c.first < MOST_WAITING + MOST_PULLED → length d.first < MOST_WAITING + MOST_PULLED
-  pub ordered : EndsInOrder c.given c.stages → EndsInOrder d.given d.stages
+  pub ordered : EndsInOrder true c.stages → EndsInOrder true d.stages
 
 -- What several steps move, unless the chain was aborted.
 pub record CarriesOn {P : Type 0} (rest : P → List ℕ → List ℕ) (in_tells out_tells : Bool) (i j o p : Look)
@@ -62,7 +67,7 @@ pub record CarriesOn {P : Type 0} (rest : P → List ℕ → List ℕ) (in_tells
   pub carries : now ≡ false → Carries rest in_tells out_tells i j o p c d
   pub stays : was ≡ true → now ≡ true
   pub ends : now ≡ false → c.given ≡ false → d.given ≡ true → in_tells ≡ true → j.left ≡ []
-  pub still : now ≡ false → c.given ≡ true → j ≡ i
+  pub still : now ≡ false → GetsNoMore c → j ≡ i
   pub counts : (i.faults ≤ j.faults) × (o.faults ≤ p.faults)
 
 -- memory lacked, and nothing is done from then on
@@ -136,10 +141,13 @@ pub record IsCarried {I K P : Type 0} (w : LinkWorld I K P) (pending : List Pend
   pub joined : IsJoinedWhile w pending roles
   pub ends : w.driven.running ≡ true → AreEndsRoused w.driven.chain w.writer w.reader
   pub fresh : w.writer ≡ None → (w.driven.running ≡ false) × (w.driven.table.items ≡ [])
-      × OnlyFirstWorks w.driven.chain
-  pub ordered : EndsInOrder w.driven.chain.given w.driven.chain.stages
+  pub ordered : EndsInOrder true w.driven.chain.stages
   pub bounded : length w.driven.chain.first < MOST_WAITING + MOST_PULLED
   pub told : w.driven.lost ≡ Some Spent → GREATEST ≤ next
+
+-- how many events its start sets at most: one for each stage, and one for each end
+abbrev pub most_by_start : {P : Type 0} → ChainState P → ℕ
+most_by_start c = length c.stages + most_for_ends
 
 -- it holds before an event of a role is handled, with what is pending then, and the number of the next event
 pub record IsCarriedTo {I K P : Type 0} (role : ℕ) (event : Event) (w : LinkWorld I K P)
@@ -276,13 +284,18 @@ pub record CarriesTo {I K P : Type 0} (rest : P → List ℕ → List ℕ) (in_t
   pub rests : v.driven.running ≡ false → w ≡ v
   pub falls : FallsTold v w
 
--- All that the input gave, which has nothing left, was written through the chain to the output.
+-- the output took all that a chain makes of these bytes, whatever had followed them
+abbrev pub TookEarly : {P : Type 0} → (P → List ℕ → List ℕ) → Look → Look → ChainState P → List ℕ → Type 0
+TookEarly rest o p c gave = (z : List ℕ) → p.taken ≡ o.taken ++ flow rest c (gave ++ z)
+
+-- All that the input gave was written through the chain to the output: the input has nothing left, or the
+-- chain wanted no more, and then nothing that the input still had would have changed what was written.
 pub record HasWritten {P : Type 0} (rest : P → List ℕ → List ℕ) (i j o p : Look)
-    (c : ChainState P) : Type 0 where
+    (c d : ChainState P) : Type 0 where
   pub gave : List ℕ
   pub given : j.given ≡ i.given ++ gave
-  pub left : j.left ≡ []
   pub taken : p.taken ≡ o.taken ++ flow rest c gave
+  pub whole : (j.left ≡ []) ⊎ ((wants d ≡ false) × TookEarly rest o p c gave)
 
 -- So it was where nothing was lost and no link failed, for links that tell.
 abbrev pub WritesWhole : {I K P : Type 0} → (P → List ℕ → List ℕ) → Bool → Bool → (I → Look) → (K → Look)
@@ -293,6 +306,7 @@ WritesWhole rest in_tells out_tells input output v w =
     → (Rose (output v.output).faults (output w.output).faults → ⊥)
     → in_tells ≡ true → out_tells ≡ true
     → HasWritten rest (input v.input) (input w.input) (output v.output) (output w.output) v.driven.chain
+    w.driven.chain
 
 -- a journal goes on by some entries
 pub record GoesOnBySome (old new : Log) : Type 0 where

@@ -7,7 +7,7 @@ use Rattle.ts_group.specs.declared.action.Named.{Named}
 use Rattle.ts_group.specs.Context.{Context}
 use Rattle.ts_transform.specs.Stage.{MOST_WAITING}
 use Rattle.ts_transform.specs.Flow.{ChainState, MustWork, client_wait, ended_at, pause_at}
-use Rattle.ts_transform.specs.Driving.{AreLive, AreNamed, AreOfStages, HasLive, IsCalledUnless, IsRoused, IsRousingOf, IsTellingBefore, SetsOnly}
+use Rattle.ts_transform.specs.Driving.{AreLive, AreNamed, AreOfStages, HasLive, IsCalledUnless, IsRoused, IsRousingOf, IsTellingBefore, SetsOnly, is_there_at}
 use Rattle.ts_transform.specs.declared.continuation.StageContinuation.{StageContinuation}
 
 -- each stage that must work is roused
@@ -47,13 +47,14 @@ OnlyRouses pause c ts a b = (first : ℕ) → AreNamed a.roles first ts
     → SetsOnly (IsRousing pause first c ts a.moment a.roles) a b
 
 -- An event that the stage at a place may set when it handled one: it rouses a stage that must work; it tells
--- the stage before that it has ended; or it passes an error on to that.
+-- the stage before that it has ended, where it had ended before only if it still has its continuation; or it
+-- passes an error on to that.
 abbrev pub MaySet : {P : Type 0} → (P → ℕ) → ℕ → ChainState P → ChainState P → List (Option StageContinuation)
     → ℕ → Event → ℕ → List Named → Pending → Type 0
 MaySet pause first old new ts at event moment roles p =
     IsRousing pause first new ts moment roles p
-    ⊎ (IsTellingBefore WriteComplete first at roles p × (ended_at old.stages at ≡ false)
-    × (ended_at new.stages at ≡ true))
+    ⊎ (IsTellingBefore WriteComplete first at roles p
+    × (ended_at old.stages at ≡ true → is_there_at ts at ≡ true) × (ended_at new.stages at ≡ true))
     ⊎ (IsTellingBefore Error first at roles p × (event ≡ Error))
 
 -- only such events were set, whatever role is the first

@@ -6,13 +6,13 @@ use Rattle.ts_journal.specs.declared.entry.ContKey.{ContKey}
 use Rattle.ts_journal.specs.declared.entry.Event.{Event}
 use Rattle.ts_journal.specs.declared.entry.Event.TheVariants.{Immediate, Timeout, Error, ReadReady, WriteReady, ReadComplete, WriteComplete, Eos, InactivityTimeout, Hook}
 use Rattle.ts_journal.specs.declared.entry.Pending.{Pending}
-use Rattle.ts_journal.specs.State.{pending_at, IsLive}
+use Rattle.ts_journal.specs.State.{pending_at, same_key, without_index, IsLive}
 use Rattle.ts_journal.specs.declared.entry.TheConstants.{GREATEST}
 use Rattle.ts_group.specs.declared.action.Named.{Named}
-use Rattle.ts_group.specs.Changes.{HasLost}
+use Rattle.ts_group.specs.Changes.{IsLess}
 use Rattle.ts_group.specs.declared.action.SetFault.{SetFault}
 use Rattle.ts_group.specs.declared.action.SetFault.TheVariants as F
-use Rattle.ts_group.specs.Context.{Context, role_at, AllPlain}
+use Rattle.ts_group.specs.Context.{Context, role_at, without_role, AllPlain}
 use Rattle.ts_link.specs.Moments.{moment_after}
 use Rattle.ts_group.specs.Entries.{Grows}
 use Rattle.ts_transform.specs.Seats.{KeepsSeated}
@@ -120,14 +120,30 @@ EachIsLive live (t ∷ ts) = HasLiveIf live t × EachIsLive live ts
 abbrev pub AreLive : List ContKey → List (Option StageContinuation) → Type 0
 AreLive live ts = (j : ℕ) (t : StageContinuation) → slice_get ts j ≡ Some (Some t) → IsLive live t.key
 
--- a continuation was destroyed, if it was live
+-- A continuation is gone, with the events that were pending of it: no event of it is pending, and all others
+-- that were live are so, under their roles and with their events.
+pub record IsGone (old new : Context) (key : ContKey) : Type 0 where
+  pub live : new.log.state.live ≡ without_index key.index old.log.state.live
+  pub roles : new.roles ≡ without_role key.index old.roles
+  pub none : (n : ℕ) (p : Pending) → pending_at n new.log.state.pending ≡ Some p → same_key p.key key ≡ false
+  pub stays : (n : ℕ) (p : Pending) → pending_at n old.log.state.pending ≡ Some p → same_key p.key key ≡ false
+      → pending_at n new.log.state.pending ≡ Some p
+
+-- it was destroyed, if it was live
 abbrev pub IsDestroyed : Context → Context → ContKey → Type 0
-IsDestroyed old new key = HasLost old.log.state new.log.state old.roles new.roles key
-    ⊎ (IsLive old.log.state.live key → ⊥)
+IsDestroyed old new key = IsGone old new key ⊎ (IsLive old.log.state.live key → ⊥)
 
 -- so was that of the stage at a place
 abbrev pub IsClosed : Context → Context → List (Option StageContinuation) → ℕ → Type 0
 IsClosed old new ts at = (t : StageContinuation) → slice_get ts at ≡ Some (Some t) → IsDestroyed old new t.key
+
+-- What is left where the continuation of the stage at a place was destroyed: it is gone, and the events of
+-- all others stay.
+pub record ClosesAt (old new : Context) (ts : List (Option StageContinuation)) (at : ℕ) : Type 0 where
+  pub closed : IsClosed old new ts at
+  pub stays : (n : ℕ) (p : Pending) → pending_at n old.log.state.pending ≡ Some p
+      → ((t : StageContinuation) → slice_get ts at ≡ Some (Some t) → same_key p.key t.key ≡ false)
+      → pending_at n new.log.state.pending ≡ Some p
 
 -- a continuation whose event was handled, one that passed an error on, and one that was destroyed
 abbrev pub unroused : Option StageContinuation → Option StageContinuation
@@ -162,10 +178,34 @@ may_pass_error_at [] at = false
 may_pass_error_at (t ∷ ts) zero = may_pass_error t
 may_pass_error_at (t ∷ ts) (suc at) = may_pass_error_at ts at
 
--- how many continuations have passed no error on
-abbrev pub errors_to_pass : List (Option StageContinuation) → ℕ
-errors_to_pass [] = 0
-errors_to_pass (t ∷ ts) = (if may_pass_error t then 1 else 0) + errors_to_pass ts
+-- how many calls a continuation may still make to the one before it: with the error that it passes on, and
+-- where it finds its stage ended
+abbrev pub calls_of : Option StageContinuation → ℕ
+calls_of None = 0
+calls_of (Some t) = if t.passed_error then 1 else 2
+
+-- how many all of them may still make
+abbrev pub upstream_calls : List (Option StageContinuation) → ℕ
+upstream_calls [] = 0
+upstream_calls (t ∷ ts) = calls_of t + upstream_calls ts
+
+-- whether a continuation stands at a place
+abbrev pub is_there : Option (Option StageContinuation) → Bool
+is_there None = false
+is_there (Some None) = false
+is_there (Some (Some t)) = true
+
+-- whether the stage at a place has its continuation, and whether the one before it has
+abbrev pub is_there_at : List (Option StageContinuation) → ℕ → Bool
+is_there_at ts at = is_there (slice_get ts at)
+
+abbrev pub is_there_before : List (Option StageContinuation) → ℕ → Bool
+is_there_before ts zero = false
+is_there_before ts (suc at) = is_there_at ts at
+
+-- the stage at a place, which had its event, tells nobody: it or the one before it has no continuation
+abbrev pub HasNobodyToTell : List (Option StageContinuation) → ℕ → Type 0
+HasNobodyToTell ts at = (is_there_at ts at ≡ false) ⊎ (is_there_before ts at ≡ false)
 
 -- the continuation of the last stage
 abbrev pub last_of : List (Option StageContinuation) → Option StageContinuation
@@ -266,7 +306,7 @@ pub record SetsFew (most : ℕ) (old new : Context) : Type 0 where
 abbrev pub most_round : ℕ
 most_round = 3
 
--- by a stage at its event, which tells the one before it where it ends
+-- by a stage at its event, which tells the one before it where it ends, or finds itself ended
 abbrev pub most_by_stage : ℕ
 most_by_stage = 4
 
@@ -277,10 +317,6 @@ most_for_ends = 2
 -- at an event of such a chain, by a stage or an end and then for both ends
 abbrev pub most_by_event : ℕ
 most_by_event = 6
-
--- by its start, for its first stage and both ends
-abbrev pub most_by_start : ℕ
-most_by_start = 3
 
 -- an event of the role was handled, and each other event stays as it was
 pub record IsHandled (before now : List Pending) (roles : List Named) (role : ℕ)
@@ -327,6 +363,7 @@ pub record Lessens (old new : Context) : Type 0 where
   pub plain : AllPlain old.log.state.pending → AllPlain new.log.state.pending
   pub few : SetsFew 0 old new
   pub none : SetsOnly (λ p. ⊥) old new
+  pub less : IsLess old.log.state new.log.state
 
 -- A continuation of a role outside the roles of stages keeps its role and its event.
 abbrev pub KeepsOthers : ℕ → List (Option StageContinuation) → Context → Context → Type 0

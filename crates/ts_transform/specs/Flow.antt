@@ -1,9 +1,13 @@
 -- A chain, and the flow through it: one expression for all that it still gives, whatever stands where on the
 -- way.
-use Rattle.std.specs.Prelude.{◌≡◌, ◌≢◌, ℕ, zero, suc, ◌+◌, ◌++◌, List, [], ◌∷◌, Bool, true, false, ⊤, length, drop, take, map, Option, Some, None, ◌<◌, ◌⊎◌}
+use Rattle.std.specs.Prelude.{◌≡◌, ◌≢◌, ℕ, zero, suc, ◌+◌, ◌++◌, List, [], ◌∷◌, Bool, true, false, ⊤, length, drop, take, map, not, Option, Some, None, ◌<◌, ◌⊎◌}
+use Rattle.std.specs.Option.{option_and_then}
+use Rattle.std.specs.Bool.{OnTrue}
+use Rattle.ts_transform.specs.declared.pump.Part.{Part}
+use Rattle.ts_transform.specs.declared.pump.Part.TheVariants.{Works, Done}
 use Rattle.ts_transform.specs.declared.pump.Stage.{Stage}
 use Rattle.ts_transform.specs.declared.pump.Pumped.{Pumped}
-use Rattle.ts_transform.specs.Stage.{MOST_WAITING, HasDuty, passed, has_ended, has_work, Answers, Steps, to_end}
+use Rattle.ts_transform.specs.Stage.{MOST_WAITING, HasDuty, IsSettled, passed, soon_passed, part_of, is_done, has_ended, has_work, needs_no_more, cuts, Answers, Steps, to_end}
 
 -- what still comes after the stages, if v is what still comes before them
 abbrev pub flow_from : {P : Type 0} → (P → List ℕ → List ℕ) → List (Stage P) → List ℕ → List ℕ
@@ -17,18 +21,45 @@ pub record ChainState (P : Type 0) : Type 0 where
   pub stages : List (Stage P)
   pub given : Bool
 
+-- the chain of these stages, with the bytes before them
+abbrev pub chain_of : {P : Type 0} → Bool → List ℕ → List (Stage P) → ChainState P
+chain_of given first ss = record { first = first; stages = ss; given = given }
+
 -- what a chain still gives its client, if z is all that it still gets
 abbrev pub flow : {P : Type 0} → (P → List ℕ → List ℕ) → ChainState P → List ℕ → List ℕ
 flow rest c z = flow_from rest c.stages (c.first ++ z)
+
+-- what has come after the stages so far, once v came before them and no end; none where one of them finishes
+-- early, or has
+abbrev pub soon_from : {P : Type 0} → (P → List ℕ → Option (List ℕ)) → List (Stage P) → List ℕ
+    → Option (List ℕ)
+soon_from soon [] v = Some v
+soon_from soon (s ∷ ss) v = option_and_then (soon_from soon ss) (soon_passed soon s v)
+
+-- what a chain will have given its client once z came, and no end; none where a stage finishes early
+abbrev pub soon_flow : {P : Type 0} → (P → List ℕ → Option (List ℕ)) → ChainState P → List ℕ
+    → Option (List ℕ)
+soon_flow soon c z = soon_from soon c.stages (c.first ++ z)
 
 -- the composition of the parts over z, the first part acting first
 abbrev pub compose : {P : Type 0} → (P → List ℕ → List ℕ) → List P → List ℕ → List ℕ
 compose rest [] z = z
 compose rest (p ∷ ps) z = compose rest ps (rest p z)
 
+-- what the parts, the first acting first, have written once z came, and no end; none where one of them is
+-- done then
+abbrev pub soon_compose : {P : Type 0} → (P → List ℕ → Option (List ℕ)) → List P → List ℕ → Option (List ℕ)
+soon_compose soon [] z = Some z
+soon_compose soon (p ∷ ps) z = option_and_then (soon_compose soon ps) (soon p z)
+
 -- a stage that got nothing yet
-abbrev pub fresh_stage : {P : Type 0} → P → Stage P
-fresh_stage part = record { part = Some part; after = [] }
+abbrev pub fresh_stage : {P : Type 0} → (P → List ℕ → Option (List ℕ)) → (P → ℕ) → P → Stage P
+fresh_stage soon pause part = record { part = Some (part_of soon pause part); after = [] }
+
+-- no stage keeps a transform that is done
+abbrev pub AreSettled : {P : Type 0} → (P → List ℕ → Option (List ℕ)) → List (Stage P) → Type 0
+AreSettled soon [] = ⊤
+AreSettled soon (s ∷ ss) = IsSettled soon s.part × AreSettled soon ss
 
 -- the bytes that wait at a boundary, of which number 0 is before the first stage
 abbrev pub wait_at : {P : Type 0} → List ℕ → List (Stage P) → ℕ → List ℕ
@@ -56,14 +87,33 @@ AnswersAt up from [] at r = ⊥
 AnswersAt up from (s ∷ ss) zero r = Answers up from s r
 AnswersAt up from (s ∷ ss) (suc at) r = AnswersAt (has_ended s) s.after ss at r
 
--- what a pump of the stage at a place leaves: all else stays as it is
+-- whether the stage at a place is done, and was not let end yet
+abbrev pub done_at : {P : Type 0} → List (Stage P) → ℕ → Bool
+done_at [] at = false
+done_at (s ∷ ss) zero = is_done s.part
+done_at (s ∷ ss) (suc at) = done_at ss at
+
+-- what a pump leaves of a stage before its own: it is cut off, or stays as it is
+abbrev pub IsBefore : {P : Type 0} → Bool → List ℕ → Stage P → List ℕ → Stage P → Type 0
+IsBefore true from s from' s' = (from' ≡ []) × (s'.part ≡ None)
+IsBefore false from s from' s' = (from' ≡ from) × (s'.part ≡ s.part)
+
+-- what a pump of the stage at a place leaves: those before a stage that was done are cut off, and all else
+-- stays as it is
 abbrev pub StepsAt : {P : Type 0} → (P → List ℕ → List ℕ) → List ℕ → List (Stage P) → ℕ → Pumped → List ℕ
     → List (Stage P) → Type 0
 StepsAt rest from [] at r from' ss' = ⊥
 StepsAt rest from (s ∷ ss) at r from' [] = ⊥
 StepsAt rest from (s ∷ ss) zero r from' (s' ∷ ss') = Steps rest from s r from' s' × (ss' ≡ ss)
 StepsAt rest from (s ∷ ss) (suc at) r from' (s' ∷ ss') =
-    (from' ≡ from) × (s'.part ≡ s.part) × StepsAt rest s.after ss at r s'.after ss'
+    IsBefore (cuts r (done_at ss at)) from s from' s' × StepsAt rest s.after ss at r s'.after ss'
+
+-- while more may come before the stages, a pump keeps what has come after them so far, whatever comes next;
+-- and none keeps a transform that is done
+pub record StaysSoon {P : Type 0} (soon : P → List ℕ → Option (List ℕ)) (up : Bool) (from : List ℕ)
+    (ss : List (Stage P)) (from' : List ℕ) (ss' : List (Stage P)) : Type 0 where
+  pub keeps : up ≡ false → (x : List ℕ) → soon_from soon ss' (from' ++ x) ≡ soon_from soon ss (from ++ x)
+  pub settled : AreSettled soon ss → AreSettled soon ss'
 
 -- the bytes of a chain that wait for its client
 abbrev pub client_wait : {P : Type 0} → ChainState P → List ℕ
@@ -94,47 +144,52 @@ closed s = record { part = None; after = [] }
 abbrev pub aborted : {P : Type 0} → ChainState P → ChainState P
 aborted c = record { first = []; stages = map closed c.stages; given = true }
 
--- the stage at a place has work
-abbrev pub HasWork : {P : Type 0} → Bool → List ℕ → List (Stage P) → ℕ → Type 0
-HasWork up from [] at = ⊥
-HasWork up from (s ∷ ss) zero = has_work (has_ended s) up from ≡ true
-HasWork up from (s ∷ ss) (suc at) = HasWork (has_ended s) s.after ss at
-
 -- the stage at a place must work: it has work, and there is room after it
 abbrev pub MustPump : {P : Type 0} → Bool → List ℕ → List (Stage P) → ℕ → Type 0
 MustPump up from [] at = ⊥
-MustPump up from (s ∷ ss) zero = HasDuty (has_work (has_ended s) up from) s.after
+MustPump up from (s ∷ ss) zero = HasDuty (has_work (has_ended s) (needs_no_more up s.part) from) s.after
 MustPump up from (s ∷ ss) (suc at) = MustPump (has_ended s) s.after ss at
 
 -- the stage of a chain at a place must work
 abbrev pub MustWork : {P : Type 0} → ChainState P → ℕ → Type 0
 MustWork c at = MustPump c.given c.first c.stages at
 
--- more may be given to a chain, and there is room before its first stage
+-- whether the first of these stages takes more bytes: it has not ended; where there is none, no end was given
+abbrev pub first_wants : {P : Type 0} → Bool → List (Stage P) → Bool
+first_wants given [] = not given
+first_wants given (s ∷ ss) = not (has_ended s)
+
+-- whether a chain takes more bytes
+abbrev pub wants : {P : Type 0} → ChainState P → Bool
+wants c = first_wants c.given c.stages
+
+-- more may be given to a chain that wants it, and there is room before its first stage
 abbrev pub MustRead : {P : Type 0} → ChainState P → Type 0
-MustRead c = (c.given ≡ false) × (length c.first < MOST_WAITING)
+MustRead c = (c.given ≡ false) × (wants c ≡ true) × (length c.first < MOST_WAITING)
 
 -- bytes wait for its client
 abbrev pub MustWrite : {P : Type 0} → ChainState P → Type 0
 MustWrite c = client_wait c ≢ []
+
+-- no stage of a chain must work, and nothing waits for its client
+pub record Rests {P : Type 0} (c : ChainState P) : Type 0 where
+  pub none : (j : ℕ) → MustWork c j → ⊥
+  pub wait : client_wait c ≡ []
 
 -- a stage has ended only where nothing more comes to it
 abbrev pub EndsInOrder : {P : Type 0} → Bool → List (Stage P) → Type 0
 EndsInOrder up [] = ⊤
 EndsInOrder up (s ∷ ss) = (has_ended s ≡ true → up ≡ true) × EndsInOrder (has_ended s) ss
 
--- no stage of a chain has work but the first
-abbrev pub OnlyFirstWorks : {P : Type 0} → ChainState P → Type 0
-OnlyFirstWorks c = (j : ℕ) → HasWork c.given c.first c.stages (j + 1) → ⊥
-
 -- the milliseconds between two events of the stage at a place
 abbrev pub pause_at : {P : Type 0} → (P → ℕ) → List (Stage P) → ℕ → ℕ
 pause_at pause [] at = 0
 pause_at pause (s ∷ ss) zero = pause_of pause s.part
   where
-    pause_of : {P : Type 0} → (P → ℕ) → Option P → ℕ
+    pause_of : {P : Type 0} → (P → ℕ) → Option (Part P) → ℕ
     pause_of pause None = 0
-    pause_of pause (Some part) = pause part
+    pause_of pause (Some (Works part)) = pause part
+    pause_of pause (Some (Done paused)) = paused
 pause_at pause (s ∷ ss) (suc at) = pause_at pause ss at
 
 -- whether the stage at a place has ended
@@ -168,8 +223,28 @@ pub record TakesAway {P : Type 0} (rest : P → List ℕ → List ℕ) (n : ℕ)
   pub given : d.given ≡ c.given
   pub len : length d.stages ≡ length c.stages
 
+-- what a chain holds before its first stage once bytes came: it drops them where it wants no more
+abbrev pub given_if : Bool → List ℕ → List ℕ → List ℕ
+given_if true first bytes = first ++ bytes
+given_if false first bytes = first
+
 -- the bytes came to the chain, in front of what is still to come
 pub record IsGiven {P : Type 0} (rest : P → List ℕ → List ℕ) (bytes : List ℕ)
     (c d : ChainState P) : Type 0 where
-  pub chain : d ≡ record c { first = c.first ++ bytes }
+  pub chain : d ≡ record c { first = given_if (wants c) c.first bytes }
   pub flow : (z : List ℕ) → flow rest d z ≡ flow rest c (bytes ++ z)
+
+-- a chain still gives what it gave: for whatever still comes before the end was given, and for nothing
+-- afterwards; and so it does where no end comes
+pub record KeepsFlow {P : Type 0} (rest : P → List ℕ → List ℕ) (soon : P → List ℕ → Option (List ℕ))
+    (c d : ChainState P) : Type 0 where
+  pub flow : (z : List ℕ) → OnTrue c.given (z ≡ []) → flow rest d z ≡ flow rest c z
+  pub soon_too : c.given ≡ false → (z : List ℕ) → soon_flow soon d z ≡ soon_flow soon c z
+  pub settled : AreSettled soon c.stages → AreSettled soon d.stages
+
+-- a chain gives the composition of these parts over what it gets, with an end and without one
+pub record Composes {P : Type 0} (rest : P → List ℕ → List ℕ) (soon : P → List ℕ → Option (List ℕ))
+    (ps : List P) (c : ChainState P) : Type 0 where
+  pub flow : (z : List ℕ) → flow rest c z ≡ compose rest ps z
+  pub soon_too : (z : List ℕ) → soon_flow soon c z ≡ soon_compose soon ps z
+  pub settled : AreSettled soon c.stages

@@ -3,13 +3,13 @@ ghost use Rattle.std.specs.Prelude.{◌≡◌, ◌+◌, ◌<◌, ◌≤◌, ◌+
 ghost use Rattle.std.specs.Bool.{OnTrue};
 ghost use Rattle.ts_transform.specs.Stage.{IfRests, done_by};
 ghost use Rattle.ts_transform.specs.Stage.{MOST_WAITING};
-ghost use Rattle.ts_transform.specs.Flow.{AnswersAt, EndsInOrder, IsFinished, IsGiven, MustRead, MustWork, MustWrite, StepsAt, TakesAway, aborted, client_wait, compose, ended_at, flow, fresh_stage, last_ended, left_to_do, pause_at, wait_at};
+ghost use Rattle.ts_transform.specs.Flow.{AnswersAt, Composes, EndsInOrder, IsFinished, IsGiven, KeepsFlow, MustRead, MustWork, MustWrite, Rests, StepsAt, TakesAway, aborted, chain_of, client_wait, compose, ended_at, flow, fresh_stage, last_ended, left_to_do, pause_at, wait_at, wants};
 ghost use Rattle.ts_vconn.specs.Moves.{PullsOn};
 
 use crate::pump::{MOST_WAITING, Pumped, Stage, pump_at};
 use crate::stages::{
-    close_all, ended_at, fresh_stages, has_ended, last_block, last_waiting, must_pump, pause_at,
-    take_last, waiting_at,
+    all_rest, close_all, ended_at, first_wants, fresh_stages, has_ended, last_block, last_waiting,
+    must_pump, pause_at, take_last, waiting_at,
 };
 use crate::transform::Transform;
 use std::alloc::Global;
@@ -40,9 +40,9 @@ impl<P: Transform + Drop> Chain<P> {
     /// it gets.
     pub fn make(alloc: Global, parts: Vec<P>) -> Result<Chain<P>, NoMemory>
         ensures made { IfOk result
-            (λ c. c ≡ record { first = []; stages = map fresh_stage parts.items; given = false }) }
-        ensures flow { IfOk result (λ c. (z : List ℕ) → flow P.rest c z ≡ compose P.rest parts.items z) }
-        ensures ordered { IfOk result (λ c. EndsInOrder c.given c.stages) }
+            (λ c. c ≡ chain_of false [] (map (fresh_stage P.soon P.pause) parts.items)) }
+        ensures flow { IfOk result (Composes P.rest P.soon parts.items) }
+        ensures ordered { IfOk result (λ c. EndsInOrder true c.stages) }
     {
         let first = Waiting::new(alloc)?;
         let stages = fresh_stages(alloc, parts)?;
@@ -56,9 +56,9 @@ impl<P: Transform + Drop> Chain<P> {
     /// A chain of these parts over a whole body, which is taken over without a copy; no more bytes come.
     pub fn over(alloc: Global, parts: Vec<P>, body: Octets) -> Result<Chain<P>, NoMemory>
         ensures made { IfOk result
-            (λ c. c ≡ record { first = body; stages = map fresh_stage parts.items; given = true }) }
+            (λ c. c ≡ chain_of true body (map (fresh_stage P.soon P.pause) parts.items)) }
         ensures flow { IfOk result (λ c. flow P.rest c [] ≡ compose P.rest parts.items body) }
-        ensures ordered { IfOk result (λ c. EndsInOrder c.given c.stages) }
+        ensures ordered { IfOk result (λ c. EndsInOrder true c.stages) }
     {
         let first = Waiting::of_octets(alloc, body)?;
         let stages = fresh_stages(alloc, parts)?;
@@ -76,13 +76,16 @@ impl<P: Transform + Drop> Chain<P> {
         self.stages.len()
     }
 
-    /// Gives it more bytes, in front of what is still to come.
+    /// Gives it more bytes, in front of what is still to come. It drops them where it wants no more.
     pub fn give(&mut self, bytes: &[u8]) -> Result<(), NoMemory>
         requires { self.old.given ≡ false }
         ensures ok { OnOk result (IsGiven P.rest bytes.now self.old self.new) }
         ensures err { OnErr result (self.new ≡ self.old) }
     {
-        self.first.write(bytes)
+        if first_wants(self.given, self.stages.as_slice()) {
+            self.first.write(bytes)?;
+        }
+        Ok(())
     }
 
     /// Says that no more bytes come.
@@ -102,21 +105,21 @@ impl<P: Transform + Drop> Chain<P> {
         waiting_at(&self.first, self.stages.as_slice(), boundary)
     }
 
-    /// Lets a stage work. It is `Idle` where it has ended, or where nothing waits before it and more may
-    /// come; else `Blocked` where 65,536 bytes or more wait after it; else it ends where nothing waits before
-    /// it; else it takes at most 32,768 bytes. Only its own stage and the boundaries beside it change, and
-    /// the flow stays: for whatever still comes before the end was given, and for nothing afterwards. Memory
-    /// lacks only where the stage must work.
+    /// Lets a stage work. It is `Idle` where it has ended, or where nothing waits before it, more may come,
+    /// and it is not done; else `Blocked` where 65,536 bytes or more wait after it; else it ends where it is
+    /// done or nothing waits before it; else it takes at most 32,768 bytes. Only its own stage and the
+    /// boundaries beside it change, unless it ended done: then those before it have ended without an end of
+    /// their own, and what waited before it is dropped. The flow stays: for whatever still comes before the
+    /// end was given, and for nothing afterwards. Memory lacks only where the stage must work.
     pub fn pump(&mut self, stage: usize) -> Result<Pumped, NoMemory>
         requires { stage < length self.old.stages }
         ensures answer { IfOk result (AnswersAt self.old.given self.old.first self.old.stages stage) }
         ensures steps { IfOk result
             (λ r. StepsAt P.rest self.old.first self.old.stages stage r self.new.first self.new.stages) }
-        ensures flow { OnOk result ((z : List ℕ) → OnTrue self.old.given (z ≡ [])
-            → flow P.rest self.new z ≡ flow P.rest self.old z) }
+        ensures flow { OnOk result (KeepsFlow P.rest P.soon self.old self.new) }
         ensures rests { IfOk result (λ r. IfRests r (self.new ≡ self.old)) }
         ensures falls { IfOk result (λ r. (z : List ℕ) → OnTrue self.old.given (z ≡ [])
-            → left_to_do P.rest self.new z + done_by r ≡ left_to_do P.rest self.old z) }
+            → left_to_do P.rest self.new z + done_by r ≤ left_to_do P.rest self.old z) }
         ensures kept { (self.new.given ≡ self.old.given) × (length self.new.stages ≡ length self.old.stages) }
         ensures err { OnErr result (MustWork self.old stage × (self.new ≡ self.old)) }
     {
@@ -140,10 +143,11 @@ impl<P: Transform + Drop> Chain<P> {
         take_last(&mut self.first, &mut self.stages, n);
     }
 
-    /// Whether the client has all that it gets.
+    /// Whether the client has all that it gets: then nothing more comes out, whatever still comes in.
     pub fn is_finished(&self) -> bool
         ensures finished { IsTrue result ↔ IsFinished self.now }
-        ensures flow { IsTrue result → flow P.rest self.now [] ≡ [] }
+        ensures flow { IsTrue result → (z : List ℕ) → OnTrue self.now.given (z ≡ [])
+            → flow P.rest self.now z ≡ [] }
     {
         match last_block(&self.first, self.stages.as_slice()) {
             Some(_) => false,
@@ -174,11 +178,27 @@ impl<P: Transform + Drop> Chain<P> {
         self.first.len() < MOST_WAITING
     }
 
-    /// Whether more may be given to it, and there is room before its first stage.
+    /// Whether it takes more bytes: its first stage has not ended; without a stage, its end was not given.
+    pub fn wants(&self) -> bool
+        ensures { result ≡ wants self.now }
+    {
+        first_wants(self.given, self.stages.as_slice())
+    }
+
+    /// Whether its end was not given, it wants more, and there is room before its first stage.
     pub fn must_read(&self) -> bool
         ensures { IsTrue result ↔ MustRead self.now }
     {
-        !self.given && self.first.len() < MOST_WAITING
+        let wants = first_wants(self.given, self.stages.as_slice());
+        !self.given && wants && self.first.len() < MOST_WAITING
+    }
+
+    /// Whether no stage must work, and nothing waits for the client.
+    pub fn rests(&self) -> bool
+        ensures { IsTrue result ↔ Rests self.now }
+    {
+        let stages = self.stages.as_slice();
+        last_waiting(&self.first, stages) == 0 && all_rest(self.given, &self.first, stages)
     }
 
     /// Whether bytes wait for the client.

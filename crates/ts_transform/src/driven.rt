@@ -1,7 +1,6 @@
 //! A chain whose stages are continuations of one group: what drives them, whoever owns the chain.
 ghost use Rattle.std.specs.Prelude.{◌≡◌, ℕ, ◌+◌, ◌<◌, [], length, true, false, None, MatchOption};
 ghost use Rattle.ts_group.specs.Context.{IsSame};
-ghost use Rattle.ts_transform.specs.Flow.{OnlyFirstWorks};
 ghost use Rattle.ts_transform.specs.Driving.{ActsWithin, BeginsBeside, SetsOnly, most_by_stage};
 ghost use Rattle.ts_transform.specs.Cover.{IsRousing};
 ghost use Rattle.ts_transform.specs.Acting.{IsStage, StillGives};
@@ -80,17 +79,16 @@ impl<P: Transform + Drop> DrivenChain<P> {
         self.lost = Some(loss);
     }
 
-    /// Makes a continuation for each stage, with the roles from the first on, and rouses the first stage
-    /// if it must work.
+    /// Makes a continuation for each stage, with the roles from the first on, and rouses each stage that
+    /// must work.
     pub fn start(&mut self, first: u32, cx: &mut Cx)
         requires turn { cx.old.log.state.held ≡ true }
         requires fresh { self.old.table.items ≡ [] }
-        ensures within { ActsWithin 1 cx.old cx.new }
+        ensures within { ActsWithin (length self.old.chain.stages) cx.old cx.new }
         ensures only { SetsOnly (IsRousing P.pause first self.old.chain [] cx.old.moment cx.new.roles)
             cx.old cx.new }
         ensures chain { self.new.chain ≡ self.old.chain }
-        ensures driven { OnlyFirstWorks self.old.chain
-            → IsDrivenWhile first self.new cx.new.log.state.pending cx.new.roles }
+        ensures driven { IsDrivenWhile first self.new cx.new.log.state.pending cx.new.roles }
         ensures begun { HasBegun self.new cx.new }
         ensures rest { BeginsBeside self.new.table.items cx.old cx.new }
     {
@@ -131,7 +129,7 @@ impl<P: Transform + Drop> DrivenChain<P> {
         ensures acts { (at : ℕ) → role ≡ first + at → IsStage self.old.chain self.old.table.items at
             → Acts P.rest P.pause at event self.old self.new cx.old cx.new }
         ensures other { IsOfNoStage first role self.old → (self.new ≡ self.old) × IsSame cx.old cx.new }
-        ensures gives { StillGives P.rest self.old.chain self.new.chain
+        ensures gives { StillGives P.rest P.soon self.old.chain self.new.chain
             self.old.table.items self.new.table.items cx.old cx.new }
         ensures driven { HandlesDriven first role event self.old self.new cx.old cx.new }
         ensures within { ActsWithin most_by_stage cx.old cx.new }

@@ -26,6 +26,6 @@ pub use link_drive::{DriveFault, drive_links};
 pub use link_ends::{make_end, rouse_end, unrouse};
 pub use link_world::LinkWorld;
 pub use loss::Loss;
-pub use pump::Pumped;
+pub use pump::{Part, Pumped};
 pub use transform::{MOST_FED, Transform, front_of};
 pub use world::ChainWorld;

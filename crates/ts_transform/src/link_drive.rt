@@ -53,7 +53,8 @@ fn take_turn<I: Link + Drop, K: Link + Drop, P: Transform + Drop>(
 
 /// Drives a chain between two links that was started, until nothing is pending or so many turns were made:
 /// each turn handles the event that is due first. It answers whether nothing is pending. Where nothing was
-/// lost then, and no link failed, all that the input gave was written, and it has nothing left.
+/// lost then, and no link failed, all that the input gave was written through the chain; and the input has
+/// nothing left, or the chain wants no more, and nothing that is left would change what was written.
 pub fn drive_links<I: Link + Drop, K: Link + Drop, P: Transform + Drop>(
     group: &mut Group<LinkWorld<I, K, P>>,
     turns: u32,

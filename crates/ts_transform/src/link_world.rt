@@ -9,10 +9,10 @@ ghost use Rattle.ts_group.specs.Context.{IsSame};
 ghost use Rattle.ts_group.specs.Entries.{Grows};
 ghost use Rattle.ts_transform.specs.declared.link_world.TheConstants.{READER, WRITER};
 ghost use Rattle.ts_transform.specs.Flow.{IsFinished, MustRead, MustWrite, aborted, compose, flow, fresh_stage};
-ghost use Rattle.ts_transform.specs.Driving.{ActsWithin, IsNamedIf, IsRousedIf, SetsOnly, most_by_stage, most_for_ends, most_by_event, most_by_start};
+ghost use Rattle.ts_transform.specs.Driving.{ActsWithin, IsNamedIf, IsRousedIf, SetsOnly, most_by_stage, most_for_ends, most_by_event};
 ghost use Rattle.ts_transform.specs.Driven.{SameCourse};
 ghost use Rattle.ts_transform.specs.Along.{ActsAlong, HandlesAlong, HandlesEnd, ReadsOnce, RousesAnEnd, SetsForDuty, WorksAlong, WritesOnce};
-ghost use Rattle.ts_transform.specs.Carrying.{AreEndsRoused, HandlesCarried, HandlesJoined, HandlesWaits, HasBegunAlong, HasLinkBegun, HasNoDuty, HasStepped, InputWaits, IsCarried, IsOfNobody, IsSameBut, KeepsCourse, KeepsReader, KeepsWriter, LacksMemory, Moves, OutputWaits, RetriesRead, RetriesWrite, RousesEnd, StaysJoined, StepsAlong, TriesAgain};
+ghost use Rattle.ts_transform.specs.Carrying.{AreEndsRoused, GetsNoMore, HandlesCarried, HandlesJoined, HandlesWaits, HasBegunAlong, HasLinkBegun, HasNoDuty, HasStepped, InputWaits, IsCarried, IsOfNobody, IsSameBut, KeepsCourse, KeepsReader, KeepsWriter, LacksMemory, Moves, OutputWaits, RetriesRead, RetriesWrite, RousesEnd, StaysJoined, StepsAlong, TriesAgain, most_by_start};
 
 use crate::chain::Chain;
 use crate::continuation::{StageContinuation, works};
@@ -57,7 +57,7 @@ impl<I: Link + Drop, K: Link + Drop, P: Transform + Drop> LinkWorld<I, K, P> {
         output: K,
     ) -> Result<LinkWorld<I, K, P>, NoMemory>
         ensures made { IfOk result (λ w. w.driven.chain
-            ≡ record { first = []; stages = map fresh_stage parts.items; given = false }) }
+            ≡ record { first = []; stages = map (fresh_stage P.soon P.pause) parts.items; given = false }) }
         ensures flow { IfOk result
             (λ w. (z : List ℕ) → flow P.rest w.driven.chain z ≡ compose P.rest parts.items z) }
         ensures links { IfOk result (λ w. (w.input ≡ input) × (w.output ≡ output)) }
@@ -99,12 +99,12 @@ impl<I: Link + Drop, K: Link + Drop, P: Transform + Drop> LinkWorld<I, K, P> {
         self.driven.chain()
     }
 
-    /// Whether it was started and nothing was lost: each duty has an event. So it has read and written
-    /// all, once nothing is pending.
+    /// Whether it was started and nothing was lost: each duty has an event. So it has written all, once
+    /// nothing is pending, and has read all that its chain wanted.
     pub fn is_running(&self) -> bool
         ensures running { result ≡ self.now.driven.running }
         ensures finished { result ≡ true → (next : ℕ) (roles : List Named) → IsCarried self.now [] next roles
-            → IsFinished self.now.driven.chain × (self.now.driven.chain.given ≡ true) }
+            → IsFinished self.now.driven.chain × GetsNoMore self.now.driven.chain }
     {
         self.driven.is_running()
     }
@@ -178,7 +178,7 @@ impl<I: Link + Drop, K: Link + Drop, P: Transform + Drop> LinkWorld<I, K, P> {
         }
     }
 
-    // Reads once from the input, where more may be given and there is room.
+    // Reads once from the input, where the chain wants more and has room.
     fn read(&mut self, cx: &mut Cx)
         requires turn { cx.old.log.state.held ≡ true }
         ensures moves { Moves P.rest I.tells K.tells I.look K.look self.old self.new }
@@ -191,10 +191,7 @@ impl<I: Link + Drop, K: Link + Drop, P: Transform + Drop> LinkWorld<I, K, P> {
             × ((MustRead self.old.driven.chain → ⊥) → self.new ≡ self.old) }
         ensures does { MustRead self.old.driven.chain → ReadsOnce I.look self.old self.new }
     {
-        if self.driven.chain.is_given() {
-            return;
-        }
-        if !self.driven.chain.has_room() {
+        if !self.driven.chain.must_read() {
             return;
         }
         match self.driven.chain.pull(&mut self.input) {
@@ -370,7 +367,7 @@ impl<I: Link + Drop, K: Link + Drop, P: Transform + Drop> LinkWorld<I, K, P> {
         ensures begun { HasLinkBegun self.old self.new }
         ensures carried { IsCarried self.old cx.old.log.state.pending cx.old.log.state.next cx.old.roles
             → IsCarried self.new cx.new.log.state.pending cx.new.log.state.next cx.new.roles }
-        ensures within { ActsWithin most_by_start cx.old cx.new }
+        ensures within { ActsWithin (most_by_start self.old.driven.chain) cx.old cx.new }
         ensures cause { HasBegunAlong self.new cx.new }
     {
         match make_end(WRITER, cx) {
@@ -448,7 +445,7 @@ impl<I: Link + Drop, K: Link + Drop, P: Transform + Drop> World for LinkWorld<I,
         requires turn { cx.old.log.state.held ≡ true }
         requires sound { IsCarried self.old cx.old.log.state.pending cx.old.log.state.next cx.old.roles }
         ensures sound { IsCarried self.new cx.new.log.state.pending cx.new.log.state.next cx.new.roles }
-        ensures within { ActsWithin most_by_start cx.old cx.new }
+        ensures within { ActsWithin (most_by_start self.old.driven.chain) cx.old cx.new }
         ensures begun { HasLinkBegun self.old self.new }
         ensures cause { self.old.writer ≡ None → HasBegunAlong self.new cx.new }
         ensures again { (self.old.writer ≡ None → ⊥)

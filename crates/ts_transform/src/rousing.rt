@@ -1,11 +1,11 @@
 //! The continuations of a chain's stages, in the order of the stages, and how those at a place are roused
 //! and told.
-ghost use Rattle.std.specs.Prelude.{◌≡◌, ◌≢◌, ℕ, ◌+◌, ◌<◌, length, slice_get, Some, None, true, OnOk, IfOk, IfErr, IfSome};
+ghost use Rattle.std.specs.Prelude.{◌≡◌, ◌≢◌, ℕ, ◌+◌, ◌<◌, length, slice_get, Some, None, true, false, is_ok, OnOk, IfOk, IfErr, IfSome};
 ghost use Rattle.ts_group.specs.declared.action.SetFault.TheVariants.{Dead};
 ghost use Rattle.ts_journal.specs.declared.entry.Event.TheVariants.{WriteReady};
 ghost use Rattle.ts_transform.specs.Seats.{KeepsSeated};
 ghost use Rattle.ts_transform.specs.declared.continuation.Rouser.TheVariants as Rouser;
-ghost use Rattle.ts_transform.specs.Driving.{AddsEvents, AreLive, AreNamed, HasLive, IsCalledUnless, IsLastMarked, IsMarked, IsRoused, IsRousedIf, IsTelling, IsTold, KeepsStages, RousesAt, SetsOnly, all_unroused, changed, error_passed, gone, last_of, may_pass_error_at, unroused, unroused_at};
+ghost use Rattle.ts_transform.specs.Driving.{AddsEvents, AreLive, AreNamed, HasLive, IsCalledUnless, IsLastMarked, IsMarked, IsRoused, IsRousedIf, IsTelling, IsTold, KeepsStages, RousesAt, SetsOnly, all_unroused, changed, error_passed, gone, is_there_at, last_of, may_pass_error_at, unroused, unroused_at};
 
 use crate::continuation::{Rouser, StageContinuation, rouse, works};
 use ts_group::{Cx, SetFault};
@@ -104,6 +104,13 @@ pub fn take_at(table: &mut [Option<StageContinuation>], at: usize) -> Option<Sta
     }
 }
 
+/// Whether the stage at a place has its continuation.
+pub fn is_there(table: &[Option<StageContinuation>], at: usize) -> bool
+    ensures { result ≡ is_there_at table.now at }
+{
+    matches!(table.get(at), Some(Some(_)))
+}
+
 /// Calls the stage at a place with an event at which it does not work, if it has a continuation.
 #[tactic(auto, using(crate::proofs::Setting::only_none, crate::proofs::Kept::set_kind))]
 pub fn tell(
@@ -119,6 +126,7 @@ pub fn tell(
     ensures seated { KeepsSeated table.now table.now cx.old cx.new }
     ensures only { (first : ℕ) → AreNamed cx.old.roles first table.now
         → SetsOnly (IsTelling event (first + at) cx.old.roles) cx.old cx.new }
+    ensures quiet { is_there_at table.now at ≡ false → (is_ok result ≡ true) × (cx.new ≡ cx.old) }
 {
     let Some(Some(continuation)) = table.get(at) else {
         return Ok(());

@@ -1,22 +1,25 @@
 //! The stages of a chain, and what waits at the boundaries between them.
 ghost use Rattle.std.specs.Prelude.{◌≡◌, ℕ, ◌+◌, ◌<◌, ◌≤◌, ◌++◌, List, [], length, take, drop, map, IfOk, IsTrue, MatchOption, ◌↔◌};
-ghost use Rattle.ts_transform.specs.Flow.{flow_from, wait_at, last_wait, last_ended, fresh_stage, closed, ended_at, pause_at, MustPump, Takes, passing};
+ghost use Rattle.ts_transform.specs.Flow.{flow_from, wait_at, last_wait, last_ended, fresh_stage, closed, ended_at, first_wants, pause_at, MustPump, Takes, passing};
 
-use crate::pump::{MOST_WAITING, Stage};
+use crate::pump::{MOST_WAITING, Part, Stage, part_of};
 use crate::transform::Transform;
 use std::alloc::Global;
 use ts_iobuf::Waiting;
 use ts_link::NoMemory;
 
-/// A stage for each part, that got nothing yet.
-pub fn fresh_stages<P: Drop>(alloc: Global, parts: Vec<P>) -> Result<Vec<Stage<P>>, NoMemory>
-    ensures { IfOk result (λ stages. stages.items ≡ map fresh_stage parts.items) }
+/// A stage for each part, that got nothing yet; a part that is done is let go at once.
+pub fn fresh_stages<P: Transform + Drop>(
+    alloc: Global,
+    parts: Vec<P>,
+) -> Result<Vec<Stage<P>>, NoMemory>
+    ensures { IfOk result (λ stages. stages.items ≡ map (fresh_stage P.soon P.pause) parts.items) }
 {
     let mut stages = Vec::new(alloc);
     for part in parts {
         let after = Waiting::new(alloc)?;
         stages.push(Stage {
-            part: Some(part),
+            part: Some(part_of(part)),
             after,
         })?;
     }
@@ -104,9 +107,30 @@ pub fn must_pump<P>(up_ended: bool, from: &Waiting, stages: &[Stage<P>], at: usi
         return false;
     };
     if at == 0 {
-        !first.has_ended() && (up_ended || !from.is_empty()) && first.after.len() < MOST_WAITING
+        let has_input = first.needs_no_more(up_ended) || !from.is_empty();
+        !first.has_ended() && has_input && first.after.len() < MOST_WAITING
     } else {
         must_pump(first.has_ended(), &first.after, others, at - 1)
+    }
+}
+
+/// Whether none of these stages must work.
+pub fn all_rest<P>(up_ended: bool, from: &Waiting, stages: &[Stage<P>]) -> bool
+    ensures { IsTrue result ↔ ((j : ℕ) → MustPump up_ended from.now stages.now j → ⊥) }
+{
+    let Some((first, others)) = stages.split_first() else {
+        return true;
+    };
+    !must_pump(up_ended, from, stages, 0) && all_rest(first.has_ended(), &first.after, others)
+}
+
+/// Whether the first of these stages takes more bytes; where there is none, whether no end was given.
+pub fn first_wants<P>(given: bool, stages: &[Stage<P>]) -> bool
+    ensures { result ≡ first_wants given stages.now }
+{
+    match stages.first() {
+        Some(stage) => !stage.has_ended(),
+        None => !given,
     }
 }
 
@@ -135,7 +159,8 @@ pub fn pause_at<P: Transform>(stages: &[Stage<P>], at: usize) -> u64
         return pause_at(others, at - 1);
     }
     match &first.part {
-        Some(part) => part.pause(),
+        Some(Part::Works(part)) => part.pause(),
+        Some(Part::Done { pause }) => *pause,
         None => 0,
     }
 }

@@ -1,17 +1,16 @@
-//! How the stages of a chain begin: a continuation for each, and an event for the first.
+//! How the stages of a chain begin: a continuation for each, and an event for each that must work.
 ghost use Rattle.std.specs.Prelude.{◌≡◌, ℕ, ◌+◌, ◌<◌, [], length, true, false, Some, OnOk, IfOk, IfErr, IfSome, ⊤};
 ghost use Rattle.ts_journal.specs.State.{IsLive};
 ghost use Rattle.ts_group.specs.Context.{role_at};
 ghost use Rattle.ts_group.specs.Entries.{Grows};
 ghost use Rattle.ts_group.specs.Changes.{SameEvents, KeepsKeys};
-ghost use Rattle.ts_transform.specs.Flow.{OnlyFirstWorks};
 ghost use Rattle.ts_transform.specs.Driving.{ActsWithin, AreOfStages, BeginsBeside, EachIsLive, SetsOnly};
 ghost use Rattle.ts_transform.specs.Cover.{AreAllLive, IsDriven, IsRousing};
 ghost use Rattle.ts_transform.specs.Loss.{IsCauseOf, making_loss};
 
 use crate::chain::Chain;
-use crate::continuation::{Rouser, StageContinuation};
-use crate::handler::rouse_if_ready;
+use crate::continuation::StageContinuation;
+use crate::handler::rouse_below;
 use crate::link_ends::make_end;
 use crate::loss::Loss;
 use crate::transform::Transform;
@@ -72,8 +71,8 @@ fn make_all(
     Ok(())
 }
 
-/// Makes a continuation for each stage of a chain, with the roles from the first on, and rouses the first
-/// stage if it must work.
+/// Makes a continuation for each stage of a chain, with the roles from the first on, and rouses each stage
+/// that must work.
 #[tactic(auto, using(ts_group::proofs::Grows::grows_trans))]
 pub fn begin<P: Transform + Drop>(
     first: u32,
@@ -83,10 +82,10 @@ pub fn begin<P: Transform + Drop>(
 ) -> Result<(), Loss>
     requires turn { cx.old.log.state.held ≡ true }
     requires empty { table.old.items ≡ [] }
-    ensures within { ActsWithin 1 cx.old cx.new }
+    ensures within { ActsWithin (length chain.now.stages) cx.old cx.new }
     ensures only { SetsOnly (IsRousing P.pause first chain.now [] cx.old.moment cx.new.roles) cx.old cx.new }
-    ensures driven { OnOk result (OnlyFirstWorks chain.now
-        → IsDriven first chain.now table.new.items cx.new.log.state.pending cx.new.roles) }
+    ensures driven { OnOk result
+        (IsDriven first chain.now table.new.items cx.new.log.state.pending cx.new.roles) }
     ensures cause { IfErr result (λ loss. IsCauseOf ⊤ loss cx.new) }
     ensures rest { BeginsBeside table.new.items cx.old cx.new }
     ensures live { OnOk result (AreAllLive chain.now table.new.items cx.new) }
@@ -94,7 +93,7 @@ pub fn begin<P: Transform + Drop>(
     if let Err(fault) = make_all(first, table, chain.stages(), cx) {
         return Err(Loss::of_make(&fault));
     }
-    match rouse_if_ready(chain, table, 0, Rouser::Upstream, cx) {
+    match rouse_below(chain, table, chain.stages(), cx) {
         Ok(()) => Ok(()),
         Err(fault) => Err(Loss::of_set(&fault)),
     }

@@ -1,8 +1,8 @@
 //! A transform of a body: what it is given in pieces, and what it writes.
-ghost use Rattle.std.specs.Prelude.{◌≡◌, ℕ, ◌<◌, ◌≤◌, List, [], length, take, slice_get};
+ghost use Rattle.std.specs.Prelude.{◌≡◌, ℕ, ◌<◌, ◌≤◌, List, [], Option, Some, is_none, true, length, take, slice_get};
 ghost use Rattle.std.specs.Prelude.{IsTrue, IsSomeAnd, IfOk, OnOk, OnErr};
-ghost use Rattle.ts_iobuf.specs.Buffer.{GrowsBy, blocks_of, is_reader, readable};
-ghost use Rattle.ts_transform.specs.Law.{Feeds};
+ghost use Rattle.ts_iobuf.specs.Buffer.{GrowsBy, appended, blocks_of, is_reader, readable};
+ghost use Rattle.ts_transform.specs.Law.{Feeds, Hears, IsDone};
 
 use std::alloc::Global;
 use ts_iobuf::{IoBuffer, ReaderId};
@@ -30,13 +30,20 @@ pub fn front_of(input: &IoBuffer, reader: ReaderId, most: usize) -> &[u8]
 
 /// Makes one stream of bytes of another. What it still writes is a function of what it still gets, and
 /// each call keeps that function; so whatever the pieces are, what it writes in all is what its line makes
-/// of the whole.
+/// of the whole. It may be done before its bytes end: then it writes nothing more.
 pub trait Transform: Sized {
     /// What a transform is made of, as a line of the configuration.
     type Line;
 
     // What it still writes, if these bytes are all that it still gets.
     ghost rest: { Self → List ℕ → List ℕ };
+
+    // What it has written once it got these bytes, and no end; none where it is done then: whatever still
+    // comes, it writes nothing more.
+    ghost soon: { Self → List ℕ → Option (List ℕ) };
+
+    // The same of a transform that a line makes.
+    ghost line_soon: { Self.Line → List ℕ → Option (List ℕ) };
 
     // What a line makes of a whole body.
     ghost whole: { Self.Line → List ℕ → List ℕ };
@@ -50,6 +57,7 @@ pub trait Transform: Sized {
     /// A transform that got nothing yet.
     fn fresh(alloc: Global, line: &Self::Line) -> Result<Self, NoMemory>
         ensures rest { IfOk result (λ t. (z : List ℕ) → rest t z ≡ whole line.now z) }
+        ensures soon { IfOk result (λ t. (z : List ℕ) → soon t z ≡ line_soon line.now z) }
         ensures pause { IfOk result (λ t. pause t ≡ line_pause line.now) };
 
     /// Takes bytes from the front of the input, at least one, and answers how many.
@@ -58,6 +66,8 @@ pub trait Transform: Sized {
         ensures count { IfOk result (λ n. (1 ≤ n) × (n ≤ length input.now)) }
         ensures law { IfOk result
             (λ n. Feeds (rest self.old) (rest self.new) (take n input.now) out.old out.new) }
+        ensures soon { IfOk result
+            (λ n. Hears (soon self.old) (soon self.new) (take n input.now) (appended out.old out.new)) }
         ensures err { OnErr result ((self.new ≡ self.old) × (out.new ≡ out.old)) };
 
     /// Takes some of what a reader of the input can read, at least one byte and at most `most`, and answers
@@ -76,6 +86,8 @@ pub trait Transform: Sized {
         ensures count { IfOk result (λ n. (1 ≤ n) × (n ≤ most) × (n ≤ length (readable input.now reader))) }
         ensures law { IfOk result (λ n. Feeds (rest self.old) (rest self.new)
             (take n (readable input.now reader)) out.old out.new) }
+        ensures soon { IfOk result (λ n. Hears (soon self.old) (soon self.new)
+            (take n (readable input.now reader)) (appended out.old out.new)) }
         ensures err { OnErr result ((self.new ≡ self.old) × (out.new ≡ out.old)) }
     {
         self.feed(front_of(input, reader, most), out)
@@ -86,7 +98,17 @@ pub trait Transform: Sized {
         ensures law { OnOk result (GrowsBy out.old out.new (rest self.old [])) }
         ensures err { OnErr result ((self.new ≡ self.old) × (out.new ≡ out.old)) };
 
+    /// Whether it writes nothing more, whatever still comes.
+    fn done(&self) -> bool
+        ensures { result ≡ is_none (soon self.now []) };
+
     /// The milliseconds between two events of a stage.
     fn pause(&self) -> u64
         ensures { result ≡ pause self.now };
+
+    // What is done now stays done, and has nothing left to write.
+    ghost is_done: { (t : Self) → is_none (soon t []) ≡ true → IsDone (rest t) (soon t) };
+
+    // Without further bytes it has written nothing more.
+    ghost is_silent: { (t : Self) (w : List ℕ) → soon t [] ≡ Some w → w ≡ [] };
 }

@@ -15,7 +15,7 @@ impl<P: Transform + Drop> ChainWorld<P> {
     /// events, and bytes are taken before the next: where none are, the stage finds its output full again.
     /// It refuses where the stage's continuation is not live, the event numbers are used up, or memory
     /// lacks; then no event was set.
-    #[tactic(auto, using(ts_group::proofs::Grows::grows_refl, crate::proofs::PassedErrors::errors_same))]
+    #[tactic(auto, using(ts_group::proofs::Grows::grows_refl, crate::proofs::PassedErrors::calls_same))]
     pub fn wake(group: &mut Group<ChainWorld<P>>) -> Result<(), SetFault>
         requires turn { group.old.cx.log.state.held ≡ true }
         requires sound { IsSoundGroup group.old }

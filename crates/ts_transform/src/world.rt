@@ -9,12 +9,12 @@ ghost use Rattle.ts_group.specs.Context.{AllPlain, IsSame};
 ghost use Rattle.ts_group.specs.Entries.{Grows};
 ghost use Rattle.ts_transform.specs.Flow.{IsFinished, PumpsOnce, TakesAway, aborted, client_wait, compose, flow, fresh_stage, left_to_do, pause_at};
 ghost use Rattle.ts_transform.specs.declared.continuation.StageContinuation.{StageContinuation};
-ghost use Rattle.ts_transform.specs.Driving.{ActsWithin, IsRoused, SetsFew, SetsOnly, all_unroused, errors_to_pass, last_of, most_by_stage};
+ghost use Rattle.ts_transform.specs.Driving.{ActsWithin, IsRoused, SetsFew, SetsOnly, all_unroused, upstream_calls, last_of, most_by_stage};
 ghost use Rattle.ts_transform.specs.Cover.{IsAwake, IsRousing};
 ghost use Rattle.ts_transform.specs.Acting.{IsStage, step_weight};
 ghost use Rattle.ts_transform.specs.Driven.{Acts, HasAllLive, HasBegun, HasBegunFrom, IsMarkedFor, IsOfNoStage, MarkLoses, MayLose, MayWake, SameCourse};
 ghost use Rattle.ts_transform.specs.declared.world.TheConstants.{FIRST};
-ghost use Rattle.ts_transform.specs.World.{GoesOnWith, IsSound};
+ghost use Rattle.ts_transform.specs.World.{FitsBody, GoesOnWith, IsSound};
 
 use crate::chain::Chain;
 use crate::driven::DrivenChain;
@@ -41,7 +41,7 @@ impl<P: Transform + Drop> ChainWorld<P> {
     pub fn make(alloc: Global, parts: Vec<P>, body: Octets) -> Result<ChainWorld<P>, NoMemory>
         ensures flow { IfOk result (λ w. flow P.rest w.driven.chain [] ≡ compose P.rest parts.items body) }
         ensures made { IfOk result (λ w. w.driven.chain
-            ≡ record { first = body; stages = map fresh_stage parts.items; given = true }) }
+            ≡ record { first = body; stages = map (fresh_stage P.soon P.pause) parts.items; given = true }) }
         ensures fresh { IfOk result
             (λ w. (w.driven.table.items ≡ []) × (w.driven.running ≡ false) × (w.driven.lost ≡ None)) }
         ensures sound { IfOk result (λ w. (pending : List Pending) → (roles : List Named)
@@ -163,8 +163,8 @@ impl<P: Transform + Drop> Slotted for ChainWorld<P> {
 
     type Trace = ();
 
-    // What the chain still gives.
-    ghost fits = { λ t w. flow P.rest w.driven.chain [] ≡ t };
+    // What the chain still gives; and it has no more stages than may be roused at once.
+    ghost fits = { FitsBody P.rest };
 
     ghost stamp = { λ w. 0 };
 
@@ -190,7 +190,7 @@ impl<P: Transform + Drop> World for ChainWorld<P> {
     ghost asking = { λ w s roles role group question. IsSound w s.pending roles };
 
     ghost left = { λ w s. Some (step_weight * (left_to_do P.rest w.driven.chain []
-        + errors_to_pass w.driven.table.items) + length s.pending) };
+        + upstream_calls w.driven.table.items) + length s.pending) };
 
     ghost right = { λ w group question reply. ⊤ };
 
@@ -210,13 +210,13 @@ impl<P: Transform + Drop> World for ChainWorld<P> {
     // A handler lets at most one stage work, by one pump.
     ghost called = { λ old new asked. PumpsOnce P.rest old.driven.chain new.driven.chain };
 
-    // At most one event is set: it rouses the first stage, after its pause. A second start does nothing.
+    // Each event that is set rouses a stage that must work, after its pause. A second start does nothing.
     fn start(&mut self, cx: &mut Cx)
         requires turn { cx.old.log.state.held ≡ true }
         requires sound { IsSound self.old cx.old.log.state.pending cx.old.roles }
         ensures grows { Grows cx.old cx.new }
         ensures sound { IsSound self.new cx.new.log.state.pending cx.new.roles }
-        ensures few { SetsFew 1 cx.old cx.new }
+        ensures few { SetsFew (length self.old.driven.chain.stages) cx.old cx.new }
         ensures only { SetsOnly (IsRousing P.pause FIRST self.old.driven.chain self.old.driven.table.items
             cx.old.moment cx.new.roles) cx.old cx.new }
         ensures begun { (length self.old.driven.table.items ≡ 0

@@ -1,7 +1,7 @@
 use Rattle.std.proofs.Common.{◌<◌, refl, subst, sym, ◌∙◌}
 use Rattle.std.specs.Prelude.{is_ok}
 use Rattle.ts_transform.specs.Driving.{works_at}
-use Rattle.ts_transform.proofs.Acting.{acts_handled, others_handled, pays_handled}
+use Rattle.ts_transform.proofs.Acting.{acts_handled, gives_handled, others_handled}
 use Rattle.ts_transform.proofs.Handled.{begun_for}
 use Rattle.ts_transform.proofs.Kept.{err_weaker}
 use Rattle.ts_transform.proofs.Seating.{key_same, seated_as, seated_then}
@@ -27,10 +27,11 @@ returns-clause-acts g c =
     c.act.new.chain c.args.table.now c.unrouse_for.new.table c.act.new.table _ (is_ok c.act.result)
     c.args.cx.now c.act.new.cx c.unrouse_for.ensures.table c.unrouse_for.ensures.same c.act.ensures.acts
 
-pub returns-clause-pays : goal.returns-clause-pays
-returns-clause-pays g c =
-    pays_handled g.P.Transform.rest c.args.chain.now c.act.new.chain c.args.table.now c.unrouse_for.new.table
-    c.act.new.table c.args.cx.now c.act.new.cx c.unrouse_for.ensures.same c.act.ensures.pays
+pub returns-clause-gives : goal.returns-clause-gives
+returns-clause-gives g c =
+    gives_handled g.P.Transform.rest g.P.Transform.soon c.args.chain.now c.act.new.chain c.args.table.now
+    c.unrouse_for.new.table
+    c.act.new.table c.args.cx.now c.act.new.cx c.unrouse_for.ensures.same c.act.ensures.gives
 
 pub returns-clause-driven : goal.returns-clause-driven
 returns-clause-driven g c =

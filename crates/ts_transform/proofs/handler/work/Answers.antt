@@ -27,8 +27,10 @@ returns-in-Moved-clause-works g c = record {
       let paid : length c.rouse_round.new.cx.log.state.pending ≤ length c.args.cx.now.log.state.pending +
       step_weight * done_by c.in-Ok.pumped = omega
       (arith, some, did, c.rouse_round.ensures.adds.few.pending) in
-      pumps g.P.Transform.rest c.args.at old c.pump.new.self c.in-Ok.pumped c.args.cx.now c.rouse_round.new.cx
-      c.in-Ok.ensures.answer c.in-Ok.ensures.steps c.in-Ok.ensures.kept.0 c.in-Ok.ensures.kept.1
+      pumps g.P.Transform.rest g.P.Transform.soon c.args.at old c.pump.new.self c.in-Ok.pumped c.args.cx.now
+      c.rouse_round.new.cx
+      c.in-Ok.ensures.answer c.in-Ok.ensures.steps c.in-Ok.ensures.flow c.in-Ok.ensures.kept.0
+      c.in-Ok.ensures.kept.1
       c.in-Ok.ensures.falls paid;
   rests = λ none.
       let old = c.args.chain.now in
@@ -82,8 +84,9 @@ returns-in_err-rouse_round-in-Ended-clause-works g c = record {
       let paid : length round.new.cx.log.state.pending ≤ length c.args.cx.now.log.state.pending + step_weight
       *
       done_by c.in-Ok.pumped = omega (arith, did, round.ensures.adds.few.pending) in
-      pumps g.P.Transform.rest c.args.at c.args.chain.now c.pump.new.self c.in-Ok.pumped c.args.cx.now
-      round.new.cx c.in-Ok.ensures.answer c.in-Ok.ensures.steps c.in-Ok.ensures.kept.0
+      pumps g.P.Transform.rest g.P.Transform.soon c.args.at c.args.chain.now c.pump.new.self c.in-Ok.pumped
+      c.args.cx.now
+      round.new.cx c.in-Ok.ensures.answer c.in-Ok.ensures.steps c.in-Ok.ensures.flow c.in-Ok.ensures.kept.0
       c.in-Ok.ensures.kept.1
       c.in-Ok.ensures.falls paid;
   rests = λ none.
@@ -126,8 +129,10 @@ returns-in_ok-rouse_round-in-Ended-clause-works g c = record {
         c.rouse_round-in-Ended.ensures.adds.few.pending,
         c.tell_before.ensures.adds.few.pending,
       ) in
-      pumps g.P.Transform.rest c.args.at c.args.chain.now c.pump.new.self c.in-Ok.pumped c.args.cx.now
-      c.tell_before.new.cx c.in-Ok.ensures.answer c.in-Ok.ensures.steps c.in-Ok.ensures.kept.0
+      pumps g.P.Transform.rest g.P.Transform.soon c.args.at c.args.chain.now c.pump.new.self c.in-Ok.pumped
+      c.args.cx.now
+      c.tell_before.new.cx c.in-Ok.ensures.answer c.in-Ok.ensures.steps c.in-Ok.ensures.flow
+      c.in-Ok.ensures.kept.0
       c.in-Ok.ensures.kept.1
       c.in-Ok.ensures.falls paid;
   rests = λ none.
@@ -178,7 +183,8 @@ returns-in_default-clause-adds g c = adds_lacks c.args.cx.now 4 c.requires.turn
 
 pub returns-in_default-clause-works : goal.returns-in_default-clause-works
 returns-in_default-clause-works g c = record {
-  pumps = pumps_none g.P.Transform.rest c.args.at c.args.chain.now c.pump.new.self c.args.cx.now
+  pumps = pumps_none g.P.Transform.rest g.P.Transform.soon c.args.at c.args.chain.now c.pump.new.self
+      c.args.cx.now
       c.in_default.ensures.err.1;
   rests = λ none. absurd (none c.in_default.ensures.err.0);
 }
@@ -190,7 +196,8 @@ returns-in-Blocked-clause-adds g c = adds_none c.args.cx.now 4 c.requires.turn
 pub returns-in-Blocked-clause-works : goal.returns-in-Blocked-clause-works
 returns-in-Blocked-clause-works g c = record {
   pumps =
-      pumps_none g.P.Transform.rest c.args.at c.args.chain.now c.pump.new.self c.args.cx.now
+      pumps_none g.P.Transform.rest g.P.Transform.soon c.args.at c.args.chain.now c.pump.new.self
+      c.args.cx.now
       (subst (λ r. IfRests r (c.pump.new.self ≡ c.args.chain.now)) c.in-Blocked.is c.in-Ok.ensures.rests);
   rests = λ none. (
     refl,
@@ -223,7 +230,8 @@ returns-in-Idle-clause-adds g c = adds_none c.args.cx.now 4 c.requires.turn
 pub returns-in-Idle-clause-works : goal.returns-in-Idle-clause-works
 returns-in-Idle-clause-works g c = record {
   pumps =
-      pumps_none g.P.Transform.rest c.args.at c.args.chain.now c.pump.new.self c.args.cx.now
+      pumps_none g.P.Transform.rest g.P.Transform.soon c.args.at c.args.chain.now c.pump.new.self
+      c.args.cx.now
       (subst (λ r. IfRests r (c.pump.new.self ≡ c.args.chain.now)) c.in-Idle.is c.in-Ok.ensures.rests);
   rests = λ none. (
     refl,

@@ -1,4 +1,4 @@
-use Rattle.std.proofs.Common.{◌≡◌, ℕ, List, [], Option, ap, length, sym, subst, ◌∙◌}
+use Rattle.std.proofs.Common.{◌≡◌, ◌<◌, ℕ, List, [], Option, ap, length, sym, subst, ◌∙◌}
 use Rattle.std.specs.Prelude.{⊤}
 use Rattle.ts_journal.specs.State.{IsLive}
 use Rattle.ts_group.specs.Context.{Context}
@@ -21,23 +21,23 @@ pub returns-in-Ok-clause-only : goal.returns-in-Ok-clause-only
 returns-in-Ok-clause-only g c =
     let made = c.make_all.new.cx in
     begin_only g.P.Transform.pause c.args.first c.args.chain.now c.deref_mut.result.now c.args.cx.now made
-    c.rouse_if_ready.new.cx c.make_all.ensures.events.pending c.make_all.ensures.grows.moment
-    c.rouse_if_ready.ensures.adds.keeps (subst (AreOfStages made.log.state.pending made.roles c.args.first)
-    (sym c.deref_mut.ensures.value) c.in_default.ensures.ok.1) c.rouse_if_ready.ensures.only
+    c.rouse_below.new.cx c.make_all.ensures.events.pending c.make_all.ensures.grows.moment
+    c.rouse_below.ensures.adds.keeps (subst (AreOfStages made.log.state.pending made.roles c.args.first)
+    (sym c.deref_mut.ensures.value) c.in_default.ensures.ok.1) c.rouse_below.ensures.only
 
-pub returns-in-Err-rouse_if_ready-clause-only : goal.returns-in-Err-rouse_if_ready-clause-only
-returns-in-Err-rouse_if_ready-clause-only g c =
+pub returns-in-Err-rouse_below-clause-only : goal.returns-in-Err-rouse_below-clause-only
+returns-in-Err-rouse_below-clause-only g c =
     let made = c.make_all.new.cx in
     begin_only g.P.Transform.pause c.args.first c.args.chain.now c.deref_mut.result.now c.args.cx.now made
-    c.rouse_if_ready.new.cx c.make_all.ensures.events.pending c.make_all.ensures.grows.moment
-    c.rouse_if_ready.ensures.adds.keeps (subst (AreOfStages made.log.state.pending made.roles c.args.first)
-    (sym c.deref_mut.ensures.value) c.in_default.ensures.ok.1) c.rouse_if_ready.ensures.only
+    c.rouse_below.new.cx c.make_all.ensures.events.pending c.make_all.ensures.grows.moment
+    c.rouse_below.ensures.adds.keeps (subst (AreOfStages made.log.state.pending made.roles c.args.first)
+    (sym c.deref_mut.ensures.value) c.in_default.ensures.ok.1) c.rouse_below.ensures.only
 
 pub returns-in-Ok-clause-driven : goal.returns-in-Ok-clause-driven
-returns-in-Ok-clause-driven g c = λ fresh.
+returns-in-Ok-clause-driven g c =
     let made = c.make_all.new.cx in
     let table = c.make_all.new.table in
-    let roused = c.rouse_if_ready in
+    let roused = c.rouse_below in
     taken_table (λ us. IsDriven c.args.first c.args.chain.now us roused.new.cx.log.state.pending
     roused.new.cx.roles) table.len roused.new.table table.items
     (roused.ensures.stages.len ∙ ap length c.deref_mut.ensures.value ∙ sym table.ok.0)
@@ -47,7 +47,7 @@ returns-in-Ok-clause-driven g c = λ fresh.
     (roused.ensures.stages.of_stages c.args.first
     (subst (AreOfStages made.log.state.pending made.roles c.args.first) (sym c.deref_mut.ensures.value)
     c.in_default.ensures.ok.1))
-    c.in-Ok.ensures.ready fresh)
+    (λ j below. c.in-Ok.ensures.ready j (subst (λ n. j < n) (sym c.stages-2.ensures) below)))
 
 -- Each continuation that was made is live, so no fault is that of a dead one.
 made_alive : {P : Type 0} (c : ChainState P) (ts us vs : List (Option StageContinuation)) (made now : Context)
@@ -61,7 +61,7 @@ made_alive c ts us vs made now n same len stages each keys unchanged =
 pub returns-in-Ok-clause-live : goal.returns-in-Ok-clause-live
 returns-in-Ok-clause-live g c =
     let table = c.make_all.new.table in
-    let roused = c.rouse_if_ready in
+    let roused = c.rouse_below in
     taken_table (λ us. AreAllLive c.args.chain.now us roused.new.cx) table.len roused.new.table table.items
     (roused.ensures.stages.len ∙ ap length c.deref_mut.ensures.value ∙ sym table.ok.0)
     (made_alive c.args.chain.now c.deref_mut.result.now table.items roused.new.table c.make_all.new.cx
@@ -73,16 +73,16 @@ pub returns-in-Err-clause-cause : goal.returns-in-Err-clause-cause
 returns-in-Err-clause-cause g c = subst (λ l. IsCauseOf ⊤ l c.make_all.new.cx) (sym c.of_make.ensures)
     c.in-Err.ensures.cause
 
-pub returns-in-Err-rouse_if_ready-clause-cause : goal.returns-in-Err-rouse_if_ready-clause-cause
-returns-in-Err-rouse_if_ready-clause-cause g c =
-    let roused = c.rouse_if_ready in
+pub returns-in-Err-rouse_below-clause-cause : goal.returns-in-Err-rouse_below-clause-cause
+returns-in-Err-rouse_below-clause-cause g c =
+    let roused = c.rouse_below in
     let now = roused.new.cx in
     subst (λ l. IsCauseOf ⊤ l now) (sym c.of_set.ensures)
-    (cause_alive (AreAllLive c.args.chain.now roused.new.table now) c.in-Err-rouse_if_ready.fault now
+    (cause_alive (AreAllLive c.args.chain.now roused.new.table now) c.in-Err-rouse_below.fault now
     (made_alive c.args.chain.now c.deref_mut.result.now c.make_all.new.table.items roused.new.table
     c.make_all.new.cx now _ c.deref_mut.ensures.value c.in_default.ensures.ok.0 c.stages.ensures
     c.in_default.ensures.ok.2
-    roused.ensures.adds.keeps.live roused.ensures.stages.same) c.in-Err-rouse_if_ready.ensures.adds.cause)
+    roused.ensures.adds.keeps.live roused.ensures.stages.same) c.in-Err-rouse_below.ensures.adds.cause)
 
 -- Whoever was made before keeps what it had, and whatever was set is of a stage that was roused.
 begins_then : (us vs : List (Option StageContinuation)) (a m b : Context) → SameEvents a.log.state m.log.state
@@ -99,17 +99,17 @@ begins_then us vs a m b events keys keeps seated = record {
 pub returns-in-Ok-clause-rest : goal.returns-in-Ok-clause-rest
 returns-in-Ok-clause-rest g c =
     let table = c.make_all.new.table in
-    let roused = c.rouse_if_ready in
+    let roused = c.rouse_below in
     taken_table (λ us. BeginsBeside us c.args.cx.now roused.new.cx) table.len roused.new.table table.items
     (roused.ensures.stages.len ∙ ap length c.deref_mut.ensures.value ∙ sym table.ok.0)
     (begins_then c.deref_mut.result.now roused.new.table c.args.cx.now c.make_all.new.cx roused.new.cx
     c.make_all.ensures.events c.make_all.ensures.keys roused.ensures.adds.keeps
     roused.ensures.stages.seated)
 
-pub returns-in-Err-rouse_if_ready-clause-rest : goal.returns-in-Err-rouse_if_ready-clause-rest
-returns-in-Err-rouse_if_ready-clause-rest g c =
+pub returns-in-Err-rouse_below-clause-rest : goal.returns-in-Err-rouse_below-clause-rest
+returns-in-Err-rouse_below-clause-rest g c =
     let table = c.make_all.new.table in
-    let roused = c.rouse_if_ready in
+    let roused = c.rouse_below in
     taken_table (λ us. BeginsBeside us c.args.cx.now roused.new.cx) table.len roused.new.table table.items
     (roused.ensures.stages.len ∙ ap length c.deref_mut.ensures.value ∙ sym table.ok.0)
     (begins_then c.deref_mut.result.now roused.new.table c.args.cx.now c.make_all.new.cx roused.new.cx

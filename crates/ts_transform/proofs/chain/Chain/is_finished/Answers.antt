@@ -4,11 +4,12 @@ use Rattle.ts_transform.proofs.Flowing.{flow-finished}
 use Rattle.ts_transform.proofs.chain.Chain.is_finished.Goals as goal
 
 pub returns-in-None-clause-flow : goal.returns-in-None-clause-flow
-returns-in-None-clause-flow g c = λ done.
+returns-in-None-clause-flow g c =
     let s = c.self.inside in
-    let ended : last_ended s.given s.stages.items ≡ true =
-    ap (last_ended s.given) (sym c.as_slice-in-None.ensures.value) ∙ sym c.has_ended.ensures ∙ done in
     let none : last_wait s.first s.stages.items ≡ [] = ap (last_wait s.first) (sym c.as_slice.ensures.value) ∙
     c.in-None.ensures in
-    rw (← c.self.view_is) (flow-finished g.P.Transform.rest
-    (record { first = s.first; stages = s.stages.items; given = s.given }) ended none)
+    rw (← c.self.view_is) (λ done z last.
+    let ended : last_ended s.given s.stages.items ≡ true =
+    ap (last_ended s.given) (sym c.as_slice-in-None.ensures.value) ∙ sym c.has_ended.ensures ∙ done in
+    flow-finished g.P.Transform.rest
+    (record { first = s.first; stages = s.stages.items; given = s.given }) ended none z last)

@@ -1,6 +1,6 @@
 use Rattle.std.proofs.Common.{Some, inl, ◌≡◌, true, false, refl, ap, arith, sym, subst, length, ◌∙◌}
 use Rattle.ts_transform.specs.Seats.{KeepsSeated}
-use Rattle.ts_transform.specs.Acting.{KeepsLive, Pays, StillGives}
+use Rattle.ts_transform.specs.Acting.{GivesOn, KeepsLive, StillGives}
 use Rattle.ts_transform.specs.Driving.{IsCause, KeepsOthers}
 use Rattle.ts_transform.specs.Cover.{AreAllLive}
 use Rattle.ts_transform.proofs.Acting.{still_gives}
@@ -41,14 +41,17 @@ pub returns-in-Ok-clause-gives : goal.returns-in-Ok-clause-gives
 returns-in-Ok-clause-gives g c =
     let self = c.args.self.now in
     let acted = c.handle_at in
-    taken_table (λ us. StillGives g.P.Transform.rest self.chain acted.new.chain self.table.items us
+    taken_table (λ us. StillGives g.P.Transform.rest g.P.Transform.soon self.chain acted.new.chain
+    self.table.items us
     c.args.cx.now acted.new.cx) self.table.len acted.new.table self.table.items
     (acted.ensures.acts.len ∙ ap length c.deref_mut.ensures.value ∙ sym self.table.ok.0)
-    (still_gives g.P.Transform.rest c.in-Some.at self.chain acted.new.chain self.table.items acted.new.table
+    (still_gives g.P.Transform.rest g.P.Transform.soon c.in-Some.at self.chain acted.new.chain
+    self.table.items acted.new.table
     c.args.cx.now acted.new.cx c.in-Some.ensures.1 acted.ensures.acts.own
     (acted.ensures.acts.len ∙ ap length c.deref_mut.ensures.value)
-    (subst (λ ts. Pays g.P.Transform.rest self.chain acted.new.chain ts acted.new.table c.args.cx.now
-    acted.new.cx) c.deref_mut.ensures.value acted.ensures.pays))
+    (subst (λ ts. GivesOn g.P.Transform.rest g.P.Transform.soon self.chain acted.new.chain ts acted.new.table
+    c.args.cx.now
+    acted.new.cx) c.deref_mut.ensures.value acted.ensures.gives))
 
 pub returns-in-Err-clause-acts : goal.returns-in-Err-clause-acts
 returns-in-Err-clause-acts g c = λ at is stage.
@@ -67,14 +70,17 @@ pub returns-in-Err-clause-gives : goal.returns-in-Err-clause-gives
 returns-in-Err-clause-gives g c =
     let self = c.args.self.now in
     let acted = c.handle_at in
-    taken_table (λ us. StillGives g.P.Transform.rest self.chain acted.new.chain self.table.items us
+    taken_table (λ us. StillGives g.P.Transform.rest g.P.Transform.soon self.chain acted.new.chain
+    self.table.items us
     c.args.cx.now acted.new.cx) self.table.len acted.new.table self.table.items
     (acted.ensures.acts.len ∙ ap length c.deref_mut.ensures.value ∙ sym self.table.ok.0)
-    (still_gives g.P.Transform.rest c.in-Some.at self.chain acted.new.chain self.table.items acted.new.table
+    (still_gives g.P.Transform.rest g.P.Transform.soon c.in-Some.at self.chain acted.new.chain
+    self.table.items acted.new.table
     c.args.cx.now acted.new.cx c.in-Some.ensures.1 acted.ensures.acts.own
     (acted.ensures.acts.len ∙ ap length c.deref_mut.ensures.value)
-    (subst (λ ts. Pays g.P.Transform.rest self.chain acted.new.chain ts acted.new.table c.args.cx.now
-    acted.new.cx) c.deref_mut.ensures.value acted.ensures.pays))
+    (subst (λ ts. GivesOn g.P.Transform.rest g.P.Transform.soon self.chain acted.new.chain ts acted.new.table
+    c.args.cx.now
+    acted.new.cx) c.deref_mut.ensures.value acted.ensures.gives))
 
 pub returns-in-Err-clause-loses : goal.returns-in-Err-clause-loses
 returns-in-Err-clause-loses g c =

@@ -1,4 +1,4 @@
-use Rattle.std.proofs.Common.{false, inl, refl, ◌≡◌, ◌+◌, ◌<◌, Some, None, length, arith, sym, subst, ◌∙◌}
+use Rattle.std.proofs.Common.{false, true, inl, refl, ◌≡◌, ◌+◌, ◌<◌, Some, None, length, arith, sym, subst, ◌∙◌}
 use Rattle.ts_vconn.specs.declared.moves.TheConstants.{MOST_PULLED}
 use Rattle.ts_transform.specs.Stage.{MOST_WAITING}
 use Rattle.ts_transform.specs.Flow.{EndsInOrder}
@@ -10,18 +10,21 @@ use Rattle.ts_transform.proofs.link_world.LinkWorld.begin.Goals as goal
 
 pub returns-in-Err-make_end-clause-within : goal.returns-in-Err-make_end-clause-within
 returns-in-Err-make_end-clause-within g c =
-    acts_then 0 0 3 (omega arith) (acts_made 0 c.args.cx.now c.make_end.new.cx c.make_end.ensures.grows
-    c.make_end.ensures.turn c.make_end.ensures.events)
+    let stages = length c.args.self.now.driven.chain.stages in
+    acts_then 0 0 (stages + 2) (omega arith) (acts_made 0 c.args.cx.now c.make_end.new.cx
+    c.make_end.ensures.grows c.make_end.ensures.turn c.make_end.ensures.events)
     (acts_made 0 c.make_end.new.cx c.make_end-2.new.cx c.make_end-2.ensures.grows c.make_end-2.ensures.turn
     c.make_end-2.ensures.events)
 
 pub returns-clause-within : goal.returns-clause-within
 returns-clause-within g c =
-    acts_then 0 3 3 (omega arith) (acts_made 0 c.args.cx.now c.make_end.new.cx c.make_end.ensures.grows
+    let stages = length c.args.self.now.driven.chain.stages in
+    let most = stages + 2 in
+    acts_then 0 most most (omega arith) (acts_made 0 c.args.cx.now c.make_end.new.cx c.make_end.ensures.grows
     c.make_end.ensures.turn c.make_end.ensures.events)
-    (acts_then 0 3 3 (omega arith) (acts_made 0 c.make_end.new.cx c.make_end-2.new.cx
+    (acts_then 0 most most (omega arith) (acts_made 0 c.make_end.new.cx c.make_end-2.new.cx
     c.make_end-2.ensures.grows c.make_end-2.ensures.turn c.make_end-2.ensures.events)
-    (acts_then 1 2 3 (omega arith) c.start.ensures.within c.rouse_ends.ensures.within))
+    (acts_then stages 2 most (omega arith) c.start.ensures.within c.rouse_ends.ensures.within))
 
 -- It runs from now on, or is lost for a cause.
 pub returns-in-Err-clause-cause : goal.returns-in-Err-clause-cause
@@ -66,12 +69,11 @@ returns-clause-carried g c = λ was.
     let made = c.make_end.new.cx in
     let both = c.make_end-2.new.cx in
     let started = c.start.new.self in
-    let fresh = was.fresh c.requires.fresh.0 in
     let chain : c.rouse_ends.new.self.driven.chain ≡ self.driven.chain = c.rouse_ends.ensures.same.chain ∙
     c.start.ensures.chain in
     record {
       joined = c.rouse_ends.ensures.joined (λ runs. record {
-        stages = c.start.ensures.driven fresh.2 runs;
+        stages = c.start.ensures.driven runs;
         of_writer = c.start.ensures.rest.made.of_stage 1 (Some c.in-Ok.writer)
             (made_if made both c.make_end-2.ensures.events c.make_end-2.ensures.keys 1 (Some c.in-Ok.writer)
             (made_of made.log.state.pending made.roles 1 c.in-Ok.writer c.in-Ok.ensures.named.0
@@ -83,7 +85,7 @@ returns-clause-carried g c = λ was.
       ends = c.rouse_ends.ensures.ends;
       fresh = λ none. absurd (let wrong : Some c.in-Ok.writer ≡ None = c.rouse_ends.ensures.course.started
           none in cc);
-      ordered = subst (λ x. EndsInOrder x.given x.stages) (sym chain) was.ordered;
+      ordered = subst (λ x. EndsInOrder true x.stages) (sym chain) was.ordered;
       told = told_begun c.rouse_ends.new.self c.rouse_ends.new.cx (returns-clause-cause g c);
       bounded = subst (λ x. length x.first < MOST_WAITING + MOST_PULLED) (sym chain) was.bounded;
     }

@@ -7,18 +7,18 @@ use Rattle.ts_transform.proofs.link_world.LinkWorld.make.Goals as goal
 
 pub returns-clause-flow : goal.returns-clause-flow
 returns-clause-flow g c = λ z. ap (λ x. flow g.P.Transform.rest x z) c.make-2.ensures.chain ∙
-    c.in_ok-chain.ensures.flow z
+    c.in_ok-chain.ensures.flow.flow z
 
 pub returns-clause-carried : goal.returns-clause-carried
 returns-clause-carried g c = λ pending next roles.
-    let fresh = made_fresh c.args.parts.items c.make-2.result.chain
+    let fresh = made_fresh g.P.Transform.soon g.P.Transform.pause c.args.parts.items c.make-2.result.chain
     (c.make-2.ensures.chain ∙ c.in_ok-chain.ensures.made) in
     record {
       joined = λ runs. absurd (let wrong : false ≡ true = sym c.make-2.ensures.fresh.1 ∙ runs in cc);
       ends = λ runs. absurd (let wrong : false ≡ true = sym c.make-2.ensures.fresh.1 ∙ runs in cc);
-      fresh = λ none. (c.make-2.ensures.fresh.1, c.make-2.ensures.fresh.0, fresh.0);
-      ordered = fresh.2;
-      bounded = fresh.1;
+      fresh = λ none. (c.make-2.ensures.fresh.1, c.make-2.ensures.fresh.0);
+      ordered = fresh.1;
+      bounded = fresh.0;
       told = λ spent. absurd (let wrong : ◌≡◌ {A = Option Loss} None (Some Spent) = sym
           c.make-2.ensures.fresh.2 ∙ spent in cc);
     }

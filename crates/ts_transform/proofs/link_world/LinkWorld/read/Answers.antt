@@ -1,13 +1,12 @@
-use Rattle.std.proofs.Common.{Some, arith, ◌≡◌, ◌<◌, true, false, length, refl, sym, ap, subst, inl, inr, rules, ◌∙◌}
+use Rattle.std.proofs.Common.{Some, arith, ◌≡◌, true, false, refl, sym, ap, subst, inl, inr, ◌∙◌}
 use Rattle.ts_link.specs.Counts.{Counted}
 use Rattle.ts_vconn.specs.MoveAnswers.{EndsPull, pull_failed}
 use Rattle.ts_vconn.specs.declared.moves.TheConstants.{MOST_PULLED}
-use Rattle.ts_transform.specs.Stage.{MOST_WAITING}
 use Rattle.ts_transform.specs.Flow.{MustRead, client_wait, last_wait}
 use Rattle.ts_transform.specs.Carrying.{AreLinked, MovesOn}
 use Rattle.ts_transform.specs.declared.loss.Loss.TheVariants as L
 use Rattle.ts_group.specs.declared.action.SetFault.TheVariants as F
-use Rattle.ts_transform.proofs.Carrying.{counted_grows, moves_aborted, moves_as, moves_none, moves_pull, pulled_none}
+use Rattle.ts_transform.proofs.Carrying.{counted_grows, moves_aborted, moves_as, moves_none, moves_pull, must_still, pulled_none}
 use Rattle.ts_transform.proofs.Joined.{aborted_same, course_aborted, course_driven, course_same, joined_aborted, joined_as, joined_driven, linked_kept, lose_weaker, runs_before}
 use Rattle.ts_transform.proofs.Living.{live_stages}
 use Rattle.ts_transform.proofs.Kept.{acts_adds, keeps_refl}
@@ -18,16 +17,9 @@ use Rattle.ts_link.specs.declared.clock.TheConstants.{RETRY_AFTER}
 use Rattle.ts_transform.proofs.Along.{duty_end, duty_none, duty_stage, rouses_reader}
 use Rattle.ts_transform.proofs.link_world.LinkWorld.read.Goals as goal
 
--- The end was given.
-pub returns-then-is_given-clause-moves : goal.returns-then-is_given-clause-moves
-returns-then-is_given-clause-moves g c =
-    let self = c.args.self.now in
-    moves_none g.P.Transform.rest g.I.Link.tells g.K.Link.tells (g.I.Link.look self.input)
-    (g.K.Link.look self.output) self.driven.chain self.aborted ⊥
-
--- There is no room.
-pub returns-then-not-has_room-clause-moves : goal.returns-then-not-has_room-clause-moves
-returns-then-not-has_room-clause-moves g c =
+-- Nothing more comes to the chain, or there is no room.
+pub returns-then-not-must_read-clause-moves : goal.returns-then-not-must_read-clause-moves
+returns-then-not-must_read-clause-moves g c =
     let self = c.args.self.now in
     moves_none g.P.Transform.rest g.I.Link.tells g.K.Link.tells (g.I.Link.look self.input)
     (g.K.Link.look self.output) self.driven.chain self.aborted ⊥
@@ -36,8 +28,7 @@ returns-then-not-has_room-clause-moves g c =
 pub returns-in-Ok-Some-clause-moves : goal.returns-in-Ok-Some-clause-moves
 returns-in-Ok-Some-clause-moves g c =
     let self = c.args.self.now in
-    let room : length self.driven.chain.first < MOST_WAITING = search rules in
-    let must : MustRead self.driven.chain = (sym c.is_given.ensures ∙ c.if-is_given.false, room) in
+    let must : MustRead self.driven.chain = c.must_read.ensures.0 c.if-not-must_read.false in
     let pulled = c.pull.new.self in
     let kept = c.in-Ok-Some.ensures.kept in
     subst (λ x. MovesOn g.P.Transform.rest g.I.Link.tells g.K.Link.tells (g.I.Link.look self.input)
@@ -47,7 +38,7 @@ returns-in-Ok-Some-clause-moves g c =
     (moves_pull g.P.Transform.rest g.I.Link.tells g.K.Link.tells (g.I.Link.look self.input)
     (g.I.Link.look c.pull.new.link) (g.K.Link.look self.output) self.driven.chain pulled
     c.in-Ok-Some.field-0 self.aborted
-    c.in-Ok-Some.ensures.pulled kept.0 must.0 must.1
+    c.in-Ok-Some.ensures.pulled kept.0 must
     (λ given. absurd (let wrong : false ≡ true = sym must.0 ∙ sym kept.1 ∙ given in cc)))
 
 pub returns-in-Ok-Some-clause-joined : goal.returns-in-Ok-Some-clause-joined
@@ -64,8 +55,7 @@ returns-in-Ok-Some-clause-joined g c = λ was runs.
 pub returns-in-Ok-End-clause-moves : goal.returns-in-Ok-End-clause-moves
 returns-in-Ok-End-clause-moves g c =
     let self = c.args.self.now in
-    let room : length self.driven.chain.first < MOST_WAITING = search rules in
-    let must : MustRead self.driven.chain = (sym c.is_given.ensures ∙ c.if-is_given.false, room) in
+    let must : MustRead self.driven.chain = c.must_read.ensures.0 c.if-not-must_read.false in
     let pulled = c.pull.new.self in
     subst (λ x. MovesOn g.P.Transform.rest g.I.Link.tells g.K.Link.tells (g.I.Link.look self.input)
     (g.I.Link.look c.pull.new.link) (g.K.Link.look self.output) (g.K.Link.look self.output)
@@ -74,7 +64,7 @@ returns-in-Ok-End-clause-moves g c =
     (moves_pull g.P.Transform.rest g.I.Link.tells g.K.Link.tells (g.I.Link.look self.input)
     (g.I.Link.look c.pull.new.link) (g.K.Link.look self.output) self.driven.chain
     (record pulled { given = true }) c.in-Ok-End.field-0
-    self.aborted c.in-Ok-End.ensures.pulled c.in-Ok-End.ensures.kept.0 must.0 must.1
+    self.aborted c.in-Ok-End.ensures.pulled c.in-Ok-End.ensures.kept.0 must
     (λ given tells. subst (λ a. EndsPull a (g.I.Link.look c.pull.new.link).left) c.in-Ok-End.field-0-is
     (c.in-Ok-End.ensures.pulled.pulls.ends tells)))
 
@@ -82,8 +72,7 @@ returns-in-Ok-End-clause-moves g c =
 pub returns-in-Ok-Again-clause-moves : goal.returns-in-Ok-Again-clause-moves
 returns-in-Ok-Again-clause-moves g c =
     let self = c.args.self.now in
-    let room : length self.driven.chain.first < MOST_WAITING = search rules in
-    let must : MustRead self.driven.chain = (sym c.is_given.ensures ∙ c.if-is_given.false, room) in
+    let must : MustRead self.driven.chain = c.must_read.ensures.0 c.if-not-must_read.false in
     let same = c.rouse_reader.ensures.same in
     let now = c.rouse_reader.new.self in
     let kept = c.in-Ok-Again.ensures.kept in
@@ -95,7 +84,7 @@ returns-in-Ok-Again-clause-moves g c =
     (moves_pull g.P.Transform.rest g.I.Link.tells g.K.Link.tells (g.I.Link.look self.input)
     (g.I.Link.look c.pull.new.link) (g.K.Link.look self.output) self.driven.chain c.pull.new.self
     c.in-Ok-Again.field-0 self.aborted
-    c.in-Ok-Again.ensures.pulled kept.0 must.0 must.1
+    c.in-Ok-Again.ensures.pulled kept.0 must
     (λ given. absurd (let wrong : false ≡ true = sym must.0 ∙ sym kept.1 ∙ given in cc)))
 
 pub returns-in-Ok-Again-clause-retries : goal.returns-in-Ok-Again-clause-retries
@@ -161,11 +150,8 @@ returns-in-Err-clause-moves g c =
     (moves_none g.P.Transform.rest g.I.Link.tells g.K.Link.tells input out self.driven.chain self.aborted ⊥)
 
 -- The chain goes on, or is lost for a cause.
-pub returns-then-is_given-clause-course : goal.returns-then-is_given-clause-course
-returns-then-is_given-clause-course g c = course_same c.args.self.now c.args.cx.now c.requires.turn
-
-pub returns-then-not-has_room-clause-course : goal.returns-then-not-has_room-clause-course
-returns-then-not-has_room-clause-course g c = course_same c.args.self.now c.args.cx.now c.requires.turn
+pub returns-then-not-must_read-clause-course : goal.returns-then-not-must_read-clause-course
+returns-then-not-must_read-clause-course g c = course_same c.args.self.now c.args.cx.now c.requires.turn
 
 pub returns-in-Ok-Some-clause-course : goal.returns-in-Ok-Some-clause-course
 returns-in-Ok-Some-clause-course g c =
@@ -228,12 +214,8 @@ returns-in-Err-clause-course g c =
     }
 
 -- At most one event is set, for a duty.
-pub returns-then-is_given-clause-duty : goal.returns-then-is_given-clause-duty
-returns-then-is_given-clause-duty g c = duty_none g.P.Transform.pause c.args.self.now c.args.self.now
-    c.args.cx.now c.requires.turn
-
-pub returns-then-not-has_room-clause-duty : goal.returns-then-not-has_room-clause-duty
-returns-then-not-has_room-clause-duty g c = duty_none g.P.Transform.pause c.args.self.now c.args.self.now
+pub returns-then-not-must_read-clause-duty : goal.returns-then-not-must_read-clause-duty
+returns-then-not-must_read-clause-duty g c = duty_none g.P.Transform.pause c.args.self.now c.args.self.now
     c.args.cx.now c.requires.turn
 
 pub returns-in-Ok-Some-clause-duty : goal.returns-in-Ok-Some-clause-duty
@@ -265,18 +247,14 @@ returns-in-Ok-Again-clause-duty g c =
     let rouse = c.rouse_reader in
     let cx = c.args.cx.now in
     let self = c.args.self.now in
-    let room : length self.driven.chain.first < MOST_WAITING = search rules in
-    let goes : self.driven.chain.given ≡ false = sym c.is_given.ensures ∙ c.if-is_given.false in
+    let before : MustRead self.driven.chain = c.must_read.ensures.0 c.if-not-must_read.false in
     let kept = c.in-Ok-Again.ensures.kept in
     let first : c.pull.new.self.first ≡ self.driven.chain.first =
     pulled_none g.I.Link.tells (g.I.Link.look self.input) (g.I.Link.look c.pull.new.link)
     self.driven.chain.first c.pull.new.self.first c.in-Ok-Again.field-0 MOST_PULLED
     c.in-Ok-Again.field-0-is c.in-Ok-Again.ensures.pulled in
-    let must : MustRead c.pull.new.self = (
-      kept.1 ∙ goes,
-      subst (λ l. length l < MOST_WAITING) (sym first)
-          room,
-    ) in
+    let must : MustRead c.pull.new.self =
+    must_still self.driven.chain c.pull.new.self kept.1 kept.0 first before in
     record {
       within = rouse.ensures.within;
       only = λ named. duty_end g.P.Transform.pause rouse.new.self.driven.chain
@@ -300,13 +278,9 @@ returns-in-Err-clause-duty g c =
     }) c.args.cx.now c.requires.turn
 
 -- It reads once where it must.
-pub returns-then-is_given-clause-does : goal.returns-then-is_given-clause-does
-returns-then-is_given-clause-does g c = λ must. absurd
-    (let wrong : false ≡ true = sym must.0 ∙ sym c.is_given.ensures ∙ c.if-is_given.true in cc)
-
-pub returns-then-not-has_room-clause-does : goal.returns-then-not-has_room-clause-does
-returns-then-not-has_room-clause-does g c = λ must. absurd
-    (let wrong : false ≡ true = sym c.if-not-has_room.true ∙ c.has_room.ensures.1 must.1 in cc)
+pub returns-then-not-must_read-clause-does : goal.returns-then-not-must_read-clause-does
+returns-then-not-must_read-clause-does g c = λ must. absurd
+    (let wrong : false ≡ true = sym c.if-not-must_read.true ∙ c.must_read.ensures.1 must in cc)
 
 pub returns-in-Ok-Some-clause-does : goal.returns-in-Ok-Some-clause-does
 returns-in-Ok-Some-clause-does g c = λ must. inl c.in-Ok-Some.ensures.pulled.pulls.once.reads

@@ -11,7 +11,7 @@ pub returns-else-role-eq-READER-clause-moves : goal.returns-else-role-eq-READER-
 returns-else-role-eq-READER-clause-moves g c =
     let self = c.args.self.now in
     let acted = c.handle-told in
-    moves_stage g.P.Transform.rest g.I.Link.tells g.K.Link.tells (g.I.Link.look self.input)
+    moves_stage g.P.Transform.rest g.P.Transform.soon g.I.Link.tells g.K.Link.tells (g.I.Link.look self.input)
     (g.K.Link.look self.output) self.driven.chain acted.new.self.chain self.driven.table.items
     acted.new.self.table.items
     c.args.cx.now acted.new.cx self.aborted acted.ensures.gives

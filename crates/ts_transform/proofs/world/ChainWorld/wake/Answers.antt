@@ -3,7 +3,6 @@ use Rattle.ts_transform.specs.Driving.{HasEventIf}
 use Rattle.ts_transform.specs.World.{IsSound}
 use Rattle.ts_transform.proofs.Covering.{marked_sound}
 use Rattle.ts_transform.proofs.Kept.{keeps_refl, set_keeps, set_event, works_soon}
-use Rattle.ts_transform.proofs.Told.{same_length}
 use Rattle.ts_transform.proofs.world.ChainWorld.wake.Goals as goal
 
 pub returns-in_default-clause-sound : goal.returns-in_default-clause-sound
@@ -14,7 +13,6 @@ returns-in_default-clause-sound g c =
     marked_sound cx cx world.driven.chain marked.driven.chain world.driven.table.items
     marked.driven.table.items world.driven.running marked.driven.running c.in_ok-key.field-0
     c.in_ok-key.ensures.driven c.mark.ensures.chain c.in_ok-key.ensures.course.0
-    (same_length world.driven.table.items marked.driven.table.items c.mark.ensures.same)
     (keeps_refl cx c.requires.turn)
     (subst (HasEventIf cx.log.state.pending) (sym c.in_default.is) tt)
     (subst (λ w. IsSound w cx.log.state.pending cx.roles) (sym c.world_mut.ensures.value) c.requires.sound)
@@ -28,7 +26,6 @@ returns-clause-sound g c =
     marked_sound cx now world.driven.chain marked.driven.chain world.driven.table.items
     marked.driven.table.items world.driven.running marked.driven.running c.in_ok-key.field-0
     c.in_ok-key.ensures.driven c.mark.ensures.chain c.in_ok-key.ensures.course.0
-    (same_length world.driven.table.items marked.driven.table.items c.mark.ensures.same)
     (set_keeps cx now _ _ _ _ c.schedule.ensures.sets c.schedule.ensures.roles)
     (subst (HasEventIf now.log.state.pending) (sym c.in-Some.is)
     (set_event cx now (Ok c.in_default-schedule.field-0) c.in-Some.key _ _

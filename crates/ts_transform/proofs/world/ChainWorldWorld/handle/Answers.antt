@@ -6,8 +6,8 @@ pub returns-clause-goes_on : goal.returns-clause-goes_on
 returns-clause-goes_on g c =
     let self = c.args.self.now in
     let handle = c.handle-told in
-    goes_on_with g.P.Transform.rest self (record self { driven = handle.new.self }) c.args.cx.now
-    handle.new.cx handle.ensures.gives
+    goes_on_with g.P.Transform.rest g.P.Transform.soon self (record self { driven = handle.new.self })
+    c.args.cx.now handle.new.cx handle.ensures.gives
 
 pub returns-clause-loses : goal.returns-clause-loses
 returns-clause-loses g c =
