@@ -1,5 +1,8 @@
 //! Quoting: the bytes of a body come in pieces, and each byte that begins a line is written behind the mark.
-ghost use Rattle.std.specs.Prelude.{◌≡◌, ℕ, ◌<◌, ◌≤◌, ◌++◌, List, [], length, take, true, IfOk, OnOk, OnErr};
+ghost use Rattle.std.specs.Prelude.{◌≡◌, ℕ, ◌<◌, ◌≤◌, ◌++◌, List, [], length, take, true, Some, IfOk, OnOk, OnErr};
+ghost use Rattle.std.proofs.Common.{sym};
+ghost use Rattle.std.proofs.lemmas.Bool.{false≢true};
+ghost use Rattle.std.proofs.lemmas.Option.{same_Some};
 ghost use Rattle.ts_iobuf.specs.Buffer.{GrowsBy};
 ghost use Rattle.ts_transform.specs.Law.{Feeds};
 ghost use Rattle.ts_quote.specs.Quoting.{marked, marked_byte};
@@ -58,6 +61,11 @@ impl Transform for Quote {
     // What is written of the bytes that still come, by whether the first of them begins a line.
     ghost rest = { λ quote z. marked quote.mark quote.begins z };
 
+    // It is never done, and what it got is written at once.
+    ghost soon = { λ quote z. Some (marked quote.mark quote.begins z) };
+
+    ghost line_soon = { λ line z. Some (marked line.mark true z) };
+
     // The first byte of a body begins a line.
     ghost whole = { λ line z. marked line.mark true z };
 
@@ -86,7 +94,15 @@ impl Transform for Quote {
         Ok(())
     }
 
+    fn done(&self) -> bool {
+        false
+    }
+
     fn pause(&self) -> u64 {
         0
     }
+
+    ghost is_done = { λ quote is. absurd (false≢true is) };
+
+    ghost is_silent = { λ quote w is. sym (same_Some [] w is) };
 }

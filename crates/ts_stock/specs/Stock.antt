@@ -1,6 +1,7 @@
 -- The states of the stock transforms. There are no others, so no line but bnull holds bytes back.
-use Rattle.std.specs.Prelude.{◌≡◌, ◌≤◌, ℕ, ◌++◌, List, []}
+use Rattle.std.specs.Prelude.{◌≡◌, ◌≤◌, ◌-◌, ℕ, ◌++◌, List, [], length, take, nat_le, Option, Some, None, if◌then◌else◌}
 use Rattle.ts_config.specs.Bodies.{mapped, without_byte}
+use Rattle.ts_iobuf.specs.Buffer.{Buffer, GrowsBy}
 use Rattle.ts_config.specs.declared.setup.TransformLine.{TransformLine}
 use Rattle.ts_config.specs.declared.setup.TransformLine.TheVariants as t
 use Rattle.ts_stock.specs.declared.stock.State.{State}
@@ -13,6 +14,7 @@ still_writes (s.Holding held) z = held ++ z
 still_writes (s.Prepending text) z = text ++ z
 still_writes (s.Mapping from to) z = mapped from to z
 still_writes (s.Dropping byte) z = without_byte byte z
+still_writes (s.Limiting left) z = take left z
 still_writes _ z = z
 
 -- the state of a line's transform that got nothing yet
@@ -24,6 +26,7 @@ start_of (t.Prepend text) = s.Prepending text
 start_of (t.Map from to) = s.Mapping from to
 start_of (t.Drop byte) = s.Dropping byte
 start_of (t.Delay ms) = s.Delaying ms
+start_of (t.Limit most) = s.Limiting most
 
 -- what a transform writes when it is fed c, which is not empty
 abbrev pub written_at_feed : State → List ℕ → List ℕ
@@ -31,13 +34,27 @@ written_at_feed (s.Holding held) c = []
 written_at_feed (s.Prepending text) c = text ++ c
 written_at_feed (s.Mapping from to) c = mapped from to c
 written_at_feed (s.Dropping byte) c = without_byte byte c
+written_at_feed (s.Limiting left) c = take left c
 written_at_feed _ c = c
 
 -- the state after that
 abbrev pub fed : State → List ℕ → State
 fed (s.Holding held) c = s.Holding (held ++ c)
 fed (s.Prepending text) c = s.Passing
+fed (s.Limiting left) c = s.Limiting (left - length c)
 fed state c = state
+
+-- what a transform has written once it got these bytes, and no end; none where it is done then: a limit that
+-- has no byte left to pass on
+abbrev pub soon_writes : State → List ℕ → Option (List ℕ)
+soon_writes (s.Limiting left) z = if nat_le left (length z) then None else Some (take left z)
+soon_writes (s.Prepending text) [] = Some []
+soon_writes state z = Some (written_at_feed state z)
+
+-- a transform was fed c, and wrote what its state then writes
+pub record WasFed (old new : State) (c : List ℕ) (before after : Buffer) : Type 0 where
+  pub writes : GrowsBy before after (written_at_feed old c)
+  pub state : new ≡ fed old c
 
 -- n bytes of so many are taken at a feed: all, but by a map or a drop, which may take fewer
 abbrev pub CountTaken : State → ℕ → ℕ → Type 0
@@ -45,9 +62,11 @@ CountTaken (s.Mapping from to) n most = n ≤ most
 CountTaken (s.Dropping byte) n most = n ≤ most
 CountTaken _ n most = n ≡ most
 
--- the same of bytes in a buffer, of which a prepend takes those of the first block alone
+-- the same of bytes in a buffer, of which a prepend takes those of the first block alone, and a limit maybe
+-- only those that it passes on
 abbrev pub CountFrom : State → ℕ → ℕ → Type 0
 CountFrom (s.Prepending text) n most = n ≤ most
+CountFrom (s.Limiting left) n most = n ≤ most
 CountFrom state n most = CountTaken state n most
 
 -- how long its stage waits between two of its events, in milliseconds

@@ -4,6 +4,7 @@
 
 mod dropping;
 mod held;
+mod limiting;
 mod mapping;
 mod places;
 mod sharing;

@@ -1,13 +1,15 @@
 //! The stock transforms: one state for each line of a configuration, fed with a body in pieces.
-ghost use Rattle.std.specs.Prelude.{◌≡◌, ℕ, ◌<◌, ◌≤◌, ◌++◌, List, [], length, take, min, IsTrue, IfOk, OnOk, OnErr};
-ghost use Rattle.ts_config.specs.Bodies.{whole_of};
-ghost use Rattle.ts_iobuf.specs.Buffer.{GrowsBy, is_reader, readable};
-ghost use Rattle.ts_transform.specs.Law.{Feeds};
+ghost use Rattle.std.specs.Prelude.{◌≡◌, ℕ, ◌<◌, ◌≤◌, ◌++◌, List, [], length, take, min, is_none, IsTrue, IfOk, OnOk, OnErr};
+ghost use Rattle.ts_config.specs.Bodies.{so_far_of, whole_of};
+ghost use Rattle.ts_iobuf.specs.Buffer.{GrowsBy, appended, is_reader, readable};
+ghost use Rattle.ts_transform.specs.Law.{Feeds, Hears};
 ghost use Rattle.ts_transform.specs.declared.transform.TheConstants.{MOST_FED};
-ghost use Rattle.ts_stock.specs.Stock.{still_writes, start_of, fed, written_at_feed, pause_of, pause_of_line, CountTaken, CountFrom};
+ghost use Rattle.ts_stock.specs.Laws.{done_stays, silent_before};
+ghost use Rattle.ts_stock.specs.Stock.{still_writes, soon_writes, start_of, fed, written_at_feed, pause_of, pause_of_line, CountTaken, CountFrom, WasFed};
 
 use crate::dropping::write_without;
 use crate::held::Held;
+use crate::limiting::{pass_on, pass_on_from};
 use crate::mapping::write_mapped;
 use crate::sharing::share;
 use std::alloc::Global;
@@ -34,6 +36,8 @@ pub enum State {
     Mapping { from: u8, to: u8 },
     // Passes bytes on, but for this one.
     Dropping { byte: u8 },
+    // Passes so many bytes on, and then no more.
+    Limiting { left: u64 },
 }
 
 /// The transform of a line of the configuration.
@@ -63,6 +67,10 @@ impl Transform for Stock {
 
     ghost rest = { still_writes };
 
+    ghost soon = { soon_writes };
+
+    ghost line_soon = { so_far_of };
+
     ghost whole = { whole_of };
 
     ghost pause = { pause_of };
@@ -71,6 +79,7 @@ impl Transform for Stock {
 
     fn fresh(alloc: Global, line: &TransformLine) -> Result<Stock, NoMemory>
         ensures rest { IfOk result (λ s. (z : List ℕ) → still_writes s z ≡ whole_of line.now z) }
+        ensures soon { IfOk result (λ s. (z : List ℕ) → soon_writes s z ≡ so_far_of line.now z) }
         ensures pause { IfOk result (λ s. pause_of s ≡ pause_of_line line.now) }
         ensures state { IfOk result (λ s. s ≡ start_of line.now) }
     {
@@ -91,6 +100,7 @@ impl Transform for Stock {
             },
             TransformLine::Drop { byte } => State::Dropping { byte: *byte },
             TransformLine::Delay { ms } => State::Delaying { ms: *ms },
+            TransformLine::Limit { most } => State::Limiting { left: *most },
         };
         Ok(Stock { state })
     }
@@ -100,6 +110,8 @@ impl Transform for Stock {
         ensures count { IfOk result (λ n. (1 ≤ n) × (n ≤ length input.now)) }
         ensures law { IfOk result (λ n.
             Feeds (still_writes self.old) (still_writes self.new) (take n input.now) out.old out.new) }
+        ensures soon { IfOk result (λ n. Hears (soon_writes self.old) (soon_writes self.new)
+            (take n input.now) (appended out.old out.new)) }
         ensures err { OnErr result ((self.new ≡ self.old) × (out.new ≡ out.old)) }
 
         // What a line other than bnull is fed it writes at once, and bnull writes nothing.
@@ -132,6 +144,10 @@ impl Transform for Stock {
             }
             State::Mapping { from, to } => write_mapped(*from, *to, input, out),
             State::Dropping { byte } => write_without(*byte, input, out),
+            State::Limiting { left } => {
+                pass_on(left, input, out)?;
+                Ok(input.len())
+            }
         }
     }
 
@@ -149,12 +165,13 @@ impl Transform for Stock {
             × CountFrom self.old n (min most (length (readable input.now reader)))) }
         ensures law { IfOk result (λ n. Feeds (still_writes self.old) (still_writes self.new)
             (take n (readable input.now reader)) out.old out.new) }
+        ensures soon { IfOk result (λ n. Hears (soon_writes self.old) (soon_writes self.new)
+            (take n (readable input.now reader)) (appended out.old out.new)) }
         ensures err { OnErr result ((self.new ≡ self.old) × (out.new ≡ out.old)) }
 
         // As `feed` of as many bytes.
-        ensures writes { IfOk result (λ n.
-            GrowsBy out.old out.new (written_at_feed self.old (take n (readable input.now reader)))) }
-        ensures state { IfOk result (λ n. self.new ≡ fed self.old (take n (readable input.now reader))) }
+        ensures fed { IfOk result (λ n.
+            WasFed self.old self.new (take n (readable input.now reader)) out.old out.new) }
     {
         match &mut self.state {
             State::Passing => share(input, reader, most, out),
@@ -164,6 +181,7 @@ impl Transform for Stock {
             State::Prepending { .. } => self.feed(front_of(input, reader, most), out),
             State::Mapping { .. } => self.feed(front_of(input, reader, most), out),
             State::Dropping { .. } => self.feed(front_of(input, reader, most), out),
+            State::Limiting { left } => pass_on_from(left, input, reader, most, out),
         }
     }
 
@@ -182,6 +200,14 @@ impl Transform for Stock {
             State::Delaying { .. } => Ok(()),
             State::Mapping { .. } => Ok(()),
             State::Dropping { .. } => Ok(()),
+            State::Limiting { .. } => Ok(()),
+        }
+    }
+
+    fn done(&self) -> bool {
+        match &self.state {
+            State::Limiting { left } => *left == 0,
+            _ => false,
         }
     }
 
@@ -191,4 +217,8 @@ impl Transform for Stock {
             _ => 0,
         }
     }
+
+    ghost is_done = { done_stays };
+
+    ghost is_silent = { silent_before };
 }
