@@ -6,7 +6,7 @@ use Rattle.ts_wire.specs.declared.heads.RequestHead.{RequestHead}
 use Rattle.ts_wire.specs.Check.{check, plugin_host}
 use Rattle.ts_block.specs.Rules.{is_denied}
 use Rattle.ts_block.specs.Heads.{HasRequest}
-use Rattle.ts_block.specs.Block.{AnswerSays, lacking, passed_on, BodySays, ended, cut, bad, DialSays, DenySays}
+use Rattle.ts_block.specs.Block.{AnswerSays, lacking, passed_on, ended, early, cut, bad, DialSays, DenySays}
 use Rattle.ts_block.specs.Block.{VerdictSays, IsBlock, silent, no_head, asked, request_text, GoesToOrigin}
 use Rattle.ts_block.specs.Block.{IsRequestOf, sent_on, kept_back}
 use Rattle.ts_block.specs.declared.block.Block.{Block}
@@ -44,8 +44,10 @@ module _ (setup : Setup) (dialed : Bool) (refuses : Type 0) (o c : List ℕ) (b 
       → b.request ≡ request
   body_request request q (lacking none is) = ap (λ (x : Block). x.request) is
   body_request request q (passed_on h rest final good (ended body ends is)) = ap (λ (x : Block). x.request) is
-  body_request request q (passed_on h rest final good (cut body short is)) = ap (λ (x : Block). x.request) is
-  body_request request q (passed_on h rest final good (bad body broken is)) = ap (λ (x : Block). x.request) is
+  body_request request q (passed_on h rest final good (early front more read state text part soon is)) =
+      ap (λ (x : Block). x.request) is
+  body_request request q (passed_on h rest final good (cut body short late is)) = ap (λ (x : Block). x.request) is
+  body_request request q (passed_on h rest final good (bad body broken late is)) = ap (λ (x : Block). x.request) is
 
   dial_request : (d : Bool) (request : List ℕ) (q : RequestHead) → d ≡ true
       → DialSays setup dialed refuses o d request q b → b.request ≡ request

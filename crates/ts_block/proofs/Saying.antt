@@ -1,8 +1,9 @@
 -- The block case by case, from what each step of the search for it found.
 use Rattle.std.proofs.Common.{◌≡◌, ◌≢◌, ℕ, List, [], sym, ap, subst, ◌∙◌, ◌⊎◌, inl, inr, Bool, true, false}
 use Rattle.std.proofs.Common.{Some, None, Result, Ok, Err, drop}
+use Rattle.std.proofs.lemmas.List.{append-nil}
 use Rattle.ts_config.specs.declared.setup.Setup.{Setup}
-use Rattle.ts_config.specs.Bodies.{compose_lines}
+use Rattle.ts_config.specs.Bodies.{compose_lines, is_early}
 use Rattle.ts_hooks.specs.declared.txn_end.TxnEnd.TheVariants as E
 use Rattle.ts_wire.specs.declared.heads.RequestHead.{RequestHead}
 use Rattle.ts_wire.specs.declared.heads.ResponseHead.{ResponseHead}
@@ -14,11 +15,11 @@ use Rattle.ts_wire.specs.Body.{BodyOf}
 use Rattle.ts_wire.specs.Check.{check, plugin_host}
 use Rattle.ts_block.specs.Rules.{is_denied}
 use Rattle.ts_block.specs.Own.{own_refusal}
-use Rattle.ts_block.specs.Relayed.{asks_head, framing_of}
+use Rattle.ts_block.specs.Relayed.{asks_head, framing_of, if_body}
 use Rattle.ts_block.specs.Heads.{is_refused_status}
 use Rattle.ts_block.specs.Finding.{FindsRequest, FindsFinal, IsOver, IsCut}
 use Rattle.ts_block.specs.Block.{no_final, bad_status, faulty, IsGood, EndsWith, own_block, relayed_block}
-use Rattle.ts_block.specs.Block.{request_text, body_lines, BodySays, ended, cut, bad, AnswerSays, lacking}
+use Rattle.ts_block.specs.Block.{request_text, lines_for, body_lines, BodySays, ended, early, cut, bad, AnswerSays, lacking}
 use Rattle.ts_block.specs.Block.{passed_on, DialSays, DenySays, VerdictSays, IsBlock, no_head, asked}
 use Rattle.ts_block.specs.declared.block.Block.{Block}
 use Rattle.ts_block.specs.declared.own_answer.OwnStatus.{OwnStatus}
@@ -34,19 +35,47 @@ as_found q h rest body f state s is found so =
     subst (λ (x : Framing). BodyOf x rest body s) is (subst (λ (x : BodyState). BodyOf f rest body x) so
     found)
 
+-- what was found early of a body, under the framing of its response
+early_as : (setup : Setup) (q : RequestHead) (h : ResponseHead) (body : List ℕ) (f : Framing)
+    (part : List ℕ) → part ≡ body → (soon is : Bool) → f ≡ framing_of q h
+    → soon ≡ is_early (if_body f (lines_for setup h)) part → soon ≡ is
+    → is_early (body_lines setup q h) body ≡ is
+early_as setup q h body f part all soon is same says so =
+    ap (is_early (body_lines setup q h)) (sym all)
+    ∙ ap (λ (x : Framing). is_early (if_body x (lines_for setup h)) part) (sym same) ∙ sym says ∙ so
+
 pub says_bad : (setup : Setup) (request : List ℕ) (q : RequestHead) (h : ResponseHead) (rest body : List ℕ)
     (f : Framing) (state : BodyState) (b : Block)
     → f ≡ framing_of q h → BodyOf f rest body state → state ≡ B.Bad
+    → (part : List ℕ) → part ≡ body → (soon : Bool) → soon ≡ is_early (if_body f (lines_for setup h)) part
+    → soon ≡ false
     → b ≡ relayed_block setup request q h E.OriginBad [] → BodySays setup request q h rest b
-says_bad setup request q h rest body f state b is found so text =
-    bad body (as_found q h rest body f state B.Bad is found so) text
+says_bad setup request q h rest body f state b is found so part all soon says not text =
+    bad body (as_found q h rest body f state B.Bad is found so)
+    (early_as setup q h body f part all soon false is says not) text
 
 pub says_cut : (setup : Setup) (request : List ℕ) (q : RequestHead) (h : ResponseHead) (rest body : List ℕ)
     (f : Framing) (state : BodyState) (b : Block)
     → f ≡ framing_of q h → BodyOf f rest body state → IsCut f state
+    → (part : List ℕ) → part ≡ body → (soon : Bool) → soon ≡ is_early (if_body f (lines_for setup h)) part
+    → soon ≡ false
     → b ≡ relayed_block setup request q h E.OriginCut [] → BodySays setup request q h rest b
-says_cut setup request q h rest body f state b is found (other, so) text =
-    cut body (as_found q h rest body f state B.Unfinished is found so, λ e. other (is ∙ e)) text
+says_cut setup request q h rest body f state b is found (other, so) part all soon says not text =
+    cut body (as_found q h rest body f state B.Unfinished is found so, λ e. other (is ∙ e))
+    (early_as setup q h body f part all soon false is says not) text
+
+-- all bytes are a front of themselves
+pub says_early : (setup : Setup) (request : List ℕ) (q : RequestHead) (h : ResponseHead) (rest body : List ℕ)
+    (f : Framing) (state : BodyState) (b : Block)
+    → f ≡ framing_of q h → BodyOf f rest body state
+    → (part : List ℕ) → part ≡ body → (soon : Bool) → soon ≡ is_early (if_body f (lines_for setup h)) part
+    → soon ≡ true
+    → b ≡ relayed_block setup request q h E.Whole (compose_lines (body_lines setup q h) body)
+    → BodySays setup request q h rest b
+says_early setup request q h rest body f state b is found part all soon says so text =
+    early rest [] body state (sym (append-nil rest))
+    (subst (λ (x : Framing). BodyOf x rest body state) is found)
+    (early_as setup q h body f part all soon true is says so) text
 
 over_ends : (q : RequestHead) (h : ResponseHead) (rest body : List ℕ) (f : Framing) (state : BodyState)
     → f ≡ framing_of q h
@@ -164,7 +193,7 @@ says_passed setup dialed refuses o c target host q b some (rest, has) verdict sa
     b) (sym verdict) says)
 
 -- what the body says, what the origin's bytes say, and what the client's say
-pub ruleset body_says = (says_bad, says_cut, says_ended)
+pub ruleset body_says = (says_bad, says_cut, says_early, says_ended)
 
 pub ruleset answer_says = (says_none, says_refused_head, says_passed_on)
 

@@ -43,7 +43,7 @@ use Rattle.ts_block.specs.Relayed.{client_framing, framing_of, kept_length, leng
 use Rattle.ts_block.specs.Relayed.{mode_of, open_framing}
 use Rattle.ts_block.specs.Heads.{HasRequest, HasResponse, FinalHead}
 use Rattle.ts_block.specs.Block.{request_text, own_text, own_block, framing_for, relayed_head}
-use Rattle.ts_block.specs.Block.{is_acted_on, AnswerSays, lacking, passed_on, BodySays, ended, cut, bad}
+use Rattle.ts_block.specs.Block.{is_acted_on, AnswerSays, lacking, passed_on, BodySays, ended, early, cut, bad}
 use Rattle.ts_block.specs.Block.{DialSays, DenySays, VerdictSays, IsBlock, silent, no_head, asked}
 use Rattle.ts_block.specs.Sent.{HasPlainRules, RequestStaysOne, AnswerStaysOne, ResponseStaysOne}
 use Rattle.ts_block.specs.Sent.{IsClientRequest, IsOneResponse, SendsOneEach, BlocksSendOneEach}
@@ -251,9 +251,11 @@ module _ (setup : Setup) (plain : HasPlainRules setup) where
       → SendsOneEach c b
   body_so c request q o h rest b once final (ended body over is) =
       made_so c b _ is once (relayed_answer q o h rest final)
-  body_so c request q o h rest b once final (cut body short is) =
+  body_so c request q o h rest b once final (early front more read state text part soon is) =
       made_so c b _ is once (relayed_answer q o h rest final)
-  body_so c request q o h rest b once final (bad body wrong is) =
+  body_so c request q o h rest b once final (cut body short late is) =
+      made_so c b _ is once (relayed_answer q o h rest final)
+  body_so c request q o h rest b once final (bad body wrong late is) =
       made_so c b _ is once (relayed_answer q o h rest final)
 
   answer_so : (c request : List ℕ) (q : RequestHead) (o : List ℕ) (b : Block)

@@ -1,10 +1,10 @@
 -- The block of a transaction: what it makes of all that its two links give (RFC 9110, section 7.6; the
 -- Developer's Guide, "HTTP Hooks and Transactions").
-use Rattle.std.specs.Prelude.{◌≡◌, ◌≢◌, ℕ, ◌⊎◌, Bool, true, false, List, [], ◌∷◌, Some, Result, Ok, Err}
+use Rattle.std.specs.Prelude.{◌≡◌, ◌≢◌, ℕ, ◌⊎◌, Bool, true, false, List, [], ◌∷◌, ◌++◌, Some, Result, Ok, Err}
 use Rattle.ts_config.specs.declared.setup.Setup.{Setup}
 use Rattle.ts_config.specs.declared.setup.TransformLine.{TransformLine}
 use Rattle.ts_config.specs.declared.fields.Side.TheVariants as S
-use Rattle.ts_config.specs.Bodies.{compose_lines}
+use Rattle.ts_config.specs.Bodies.{compose_lines, is_early}
 use Rattle.ts_hooks.specs.declared.txn_end.TxnEnd.{TxnEnd}
 use Rattle.ts_hooks.specs.declared.txn_end.TxnEnd.TheVariants as E
 use Rattle.ts_wire.specs.declared.fields.Field.{Field}
@@ -14,6 +14,7 @@ use Rattle.ts_wire.specs.declared.framing.Framing.{Framing}
 use Rattle.ts_wire.specs.declared.framing.Framing.TheVariants as F
 use Rattle.ts_wire.specs.declared.printed.ClientFraming.{ClientFraming}
 use Rattle.ts_wire.specs.declared.frames.Mode.TheVariants as M
+use Rattle.ts_wire.specs.declared.body.BodyState.{BodyState}
 use Rattle.ts_wire.specs.declared.body.BodyState.TheVariants as B
 use Rattle.ts_wire.specs.Heads.{LacksRequest}
 use Rattle.ts_wire.specs.Check.{check, plugin_host, is_absolute}
@@ -131,15 +132,20 @@ module _ (setup : Setup) where
         body = body;
       }
 
-  -- By the body: it has ended, or it is cut, or it is bad.
+  -- By the body: it has ended; or one of its lines finishes early on the body of a front of the bytes, whatever
+  -- follows that; or it is cut, or bad, and no line finishes early on it.
   pub data BodySays (request : List ℕ) (q : RequestHead) (h : ResponseHead) (rest : List ℕ)
       (b : Block) : Type 0 where
     ended : (body : List ℕ) → EndsWith (framing_of q h) rest body
         → b ≡ relayed_block request q h E.Whole (compose_lines (body_lines q h) body)
         → BodySays request q h rest b
-    cut : (body : List ℕ) → IsCutShort (framing_of q h) rest body
+    early : (front more read : List ℕ) (state : BodyState) → rest ≡ front ++ more
+        → BodyOf (framing_of q h) front read state → is_early (body_lines q h) read ≡ true
+        → b ≡ relayed_block request q h E.Whole (compose_lines (body_lines q h) read)
+        → BodySays request q h rest b
+    cut : (body : List ℕ) → IsCutShort (framing_of q h) rest body → is_early (body_lines q h) body ≡ false
         → b ≡ relayed_block request q h E.OriginCut [] → BodySays request q h rest b
-    bad : (body : List ℕ) → BodyOf (framing_of q h) rest body B.Bad
+    bad : (body : List ℕ) → BodyOf (framing_of q h) rest body B.Bad → is_early (body_lines q h) body ≡ false
         → b ≡ relayed_block request q h E.OriginBad [] → BodySays request q h rest b
 
   -- By the origin's head: no answer can be made of it, or it is passed on.
@@ -181,6 +187,18 @@ abbrev pub HasOneBlock : Type 0
 HasOneBlock =
     (setup : Setup) (dialed refuses : Bool) (o c : List ℕ) (a b : Block)
     → IsBlock setup dialed (refuses ≡ true) o c a → IsBlock setup dialed (refuses ≡ true) o c b → a ≡ b
+
+-- A line that finishes early on the body of a front of the bytes does so on the body of them all, if they have
+-- one, and the block is that of all: it does not matter which front is taken.
+abbrev pub EarlyIsOfAll : Type 0
+EarlyIsOfAll =
+    (setup : Setup) (request : List ℕ) (q : RequestHead) (h : ResponseHead) (front more read body : List ℕ)
+    (s t : BodyState)
+    → BodyOf (framing_of q h) front read s → is_early (body_lines setup q h) read ≡ true
+    → BodyOf (framing_of q h) (front ++ more) body t
+    → (is_early (body_lines setup q h) body ≡ true)
+    × (relayed_block setup request q h E.Whole (compose_lines (body_lines setup q h) read)
+    ≡ relayed_block setup request q h E.Whole (compose_lines (body_lines setup q h) body))
 
 -- all bytes of a client say at most one request
 abbrev pub HasOneRequest : Type 0

@@ -1,17 +1,17 @@
 //! The block of a transaction, from all that its two links give: what a transaction does over events and
 //! pieces, done at once.
 ghost use Rattle.std.specs.Prelude.{◌≡◌, ◌≢◌, ◌⊎◌, [], true, false, IfOk, Ok};
-ghost use Rattle.ts_config.specs.Bodies.{compose_lines};
+ghost use Rattle.ts_config.specs.Bodies.{compose_lines, is_early};
 ghost use Rattle.ts_block.specs.Heads.{is_refused_status};
 ghost use Rattle.ts_block.specs.Relayed.{asks_head, framing_of, if_body};
 ghost use Rattle.ts_block.specs.Finding.{IsOver, IsCut};
 ghost use Rattle.ts_block.specs.Block.{IsGood, request_with, request_text, own_text, own_block};
 ghost use Rattle.ts_block.specs.Block.{silent_block, lines_for, body_lines, framing_for, relayed_with};
 ghost use Rattle.ts_block.specs.Block.{relayed_head, relayed_block, BodySays};
-ghost use Rattle.ts_block.specs.Block.{AnswerSays, DialSays, VerdictSays, IsBlock, HasOneBlock};
+ghost use Rattle.ts_block.specs.Block.{AnswerSays, DialSays, VerdictSays, IsBlock, HasOneBlock, EarlyIsOfAll};
 ghost use Rattle.ts_block.specs.Block.{HasOneRequest, BlocksHaveRequest};
 
-use crate::bodies::compose;
+use crate::bodies::{compose, is_early};
 use crate::content::is_acted_on;
 use crate::framing::{
     asks_head, client_framing, framing_between, length_told, mode_of, reads_chunks,
@@ -218,6 +218,29 @@ fn whole(
     })
 }
 
+/// Whether one of the lines finishes early on this much of a body: none does on one that is not there.
+fn finishes_early(
+    alloc: Global,
+    setup: &Setup,
+    framing: Framing,
+    head: &ResponseHead,
+    body: &[u8],
+) -> Result<bool, NoMemory>
+    ensures { IfOk result (λ early.
+        early ≡ is_early (if_body framing (lines_for setup.now head.now)) body.now) }
+{
+    match framing {
+        Framing::Nothing => Ok(false),
+        _ => is_early(
+            alloc,
+            setup.transforms.as_slice(),
+            head.status,
+            head.fields.items(),
+            Vec::from_slice(alloc, body)?,
+        ),
+    }
+}
+
 /// The block of a body that did not end.
 fn short(
     alloc: Global,
@@ -252,9 +275,9 @@ fn is_bad(state: BodyState) -> bool
     }
 }
 
-/// Whether a body that is this far, and not bad, ends with its bytes.
+/// Whether a body that is this far ends with its bytes.
 fn is_over(framing: Framing, state: BodyState) -> bool
-    ensures over { result ≡ true → state ≢ BodyState.Bad → IsOver framing state }
+    ensures over { result ≡ true → IsOver framing state }
     ensures cut { result ≡ false → state ≢ BodyState.Bad → IsCut framing state }
 {
     match state {
@@ -285,12 +308,17 @@ fn relayed(
 {
     let framing = framing_between(asked, head);
     let (body, state) = find_body(alloc, framing, rest)?;
-    if is_bad(state) {
-        let block = short(alloc, setup, request, asked, head, TxnEnd::OriginBad)?;
-        return Ok(block);
-    }
     if is_over(framing, state) {
         let block = whole(alloc, setup, request, asked, head, body)?;
+        return Ok(block);
+    }
+    let early = finishes_early(alloc, setup, framing, head, &body)?;
+    if early {
+        let block = whole(alloc, setup, request, asked, head, body)?;
+        return Ok(block);
+    }
+    if is_bad(state) {
+        let block = short(alloc, setup, request, asked, head, TxnEnd::OriginBad)?;
         return Ok(block);
     }
     let block = short(alloc, setup, request, asked, head, TxnEnd::OriginCut)?;
@@ -469,6 +497,12 @@ pub fn block_of(
 /// The law that all bytes of both sides have at most one block. The function does nothing.
 pub fn one_block()
     ensures { HasOneBlock }
+{}
+
+/// The law that the block of lines that finish early on a front of the origin's bytes is that of all of them.
+/// The function does nothing.
+pub fn early_block()
+    ensures { EarlyIsOfAll }
 {}
 
 /// The law that all bytes of a client say at most one request, which is that of the block of all bytes. The

@@ -1,6 +1,7 @@
-//! What the lines of a configuration make of a whole body. The stages of a chain do the same piece by piece.
-ghost use Rattle.std.specs.Prelude.{◌≡◌, ◌++◌, IfOk};
+//! What the lines of a configuration make of a body. The stages of a chain do the same piece by piece.
+ghost use Rattle.std.specs.Prelude.{◌≡◌, ◌++◌, take, IfOk};
 ghost use Rattle.ts_config.specs.Bodies.{mapped, without_byte, whole_of, compose_lines};
+ghost use Rattle.ts_config.specs.Bodies.{soon_of, is_early_of, is_early};
 ghost use Rattle.ts_block.specs.Acting.{acting};
 
 use crate::content::acts_on;
@@ -42,6 +43,17 @@ fn without_byte(alloc: Global, byte: u8, body: &[u8]) -> Result<Vec<u8>, NoMemor
     Ok(made)
 }
 
+// The first `most` bytes of the body.
+fn limited(most: u64, body: Vec<u8>) -> Vec<u8>
+    ensures { result.items ≡ take most body.items }
+{
+    let mut front = body;
+    if most < front.len() as u64 {
+        front.truncate(most as usize);
+    }
+    front
+}
+
 // What one line makes of a whole body.
 fn whole_of(alloc: Global, line: &TransformLine, body: Vec<u8>) -> Result<Vec<u8>, NoMemory>
     ensures { IfOk result (λ made. made.items ≡ whole_of line.now body.items) }
@@ -54,6 +66,56 @@ fn whole_of(alloc: Global, line: &TransformLine, body: Vec<u8>) -> Result<Vec<u8
         TransformLine::Null => Ok(body),
         TransformLine::Bnull => Ok(body),
         TransformLine::Delay { .. } => Ok(body),
+        TransformLine::Limit { most } => Ok(limited(*most, body)),
+    }
+}
+
+// What one line has given of a body that came so far.
+fn soon_of(alloc: Global, line: &TransformLine, body: Vec<u8>) -> Result<Vec<u8>, NoMemory>
+    ensures { IfOk result (λ made. made.items ≡ soon_of line.now body.items) }
+{
+    if body.is_empty() {
+        return Ok(body);
+    }
+    match line {
+        TransformLine::Append { .. } => Ok(body),
+        TransformLine::Bnull => Ok(Vec::new(alloc)),
+        _ => whole_of(alloc, line, body),
+    }
+}
+
+// Whether one line finishes early on a body that came so far.
+fn is_early_of(line: &TransformLine, body: &[u8]) -> bool
+    ensures { result ≡ is_early_of line.now body.now }
+{
+    match line {
+        TransformLine::Limit { most } => *most <= body.len() as u64,
+        _ => false,
+    }
+}
+
+/// Whether one of the lines that act on a response finishes early on a body that came so far.
+pub(crate) fn is_early(
+    alloc: Global,
+    lines: &[TransformLine],
+    status: u16,
+    fields: &[Field],
+    body: Vec<u8>,
+) -> Result<bool, NoMemory>
+    ensures { IfOk result (λ early. early ≡ is_early (acting lines.now status fields.now) body.items) }
+{
+    match lines {
+        [] => Ok(false),
+        [line, rest @ ..] => {
+            if !acts_on(status, fields, line) {
+                return is_early(alloc, rest, status, fields, body);
+            }
+            if is_early_of(line, &body) {
+                return Ok(true);
+            }
+            let given = soon_of(alloc, line, body)?;
+            is_early(alloc, rest, status, fields, given)
+        }
     }
 }
 

@@ -83,6 +83,7 @@ fn wants_html(line: &TransformLine) -> bool
         TransformLine::Map { .. } => false,
         TransformLine::Drop { .. } => false,
         TransformLine::Delay { .. } => false,
+        TransformLine::Limit { .. } => false,
     }
 }
 

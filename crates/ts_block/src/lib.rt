@@ -11,8 +11,8 @@ mod own_answer;
 mod rules;
 
 pub use block::{
-    Block, block_of, framing_for, is_good, one_block, one_sent_request, own_text, relayed_head,
-    relayed_with, request_text, request_with,
+    Block, block_of, early_block, framing_for, is_good, one_block, one_sent_request, own_text,
+    relayed_head, relayed_with, request_text, request_with,
 };
 pub use bodies::joined;
 pub use content::acts_on;
