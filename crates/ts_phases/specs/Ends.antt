@@ -1,9 +1,9 @@
 -- How a transaction ends, and what then stands of what its links gave and took (Developer's Guide, "HTTP
 -- Hooks and Transactions"; RFC 9112, section 8, on incomplete messages).
-use Rattle.std.specs.Prelude.{◌≡◌, ℕ, ◌++◌, List, [], length, map, All, Bool, true, false, ⊤}
+use Rattle.std.specs.Prelude.{◌≡◌, ℕ, ◌⊎◌, ◌++◌, List, [], length, map, All, Bool, true, false, ⊤}
 use Rattle.ts_config.specs.declared.setup.Setup.{Setup}
 use Rattle.ts_config.specs.declared.setup.TransformLine.{TransformLine}
-use Rattle.ts_config.specs.Bodies.{compose_lines}
+use Rattle.ts_config.specs.Bodies.{compose_lines, is_early, soon_lines}
 use Rattle.ts_hooks.specs.declared.txn_end.TxnEnd.{TxnEnd}
 use Rattle.ts_hooks.specs.declared.txn_end.TxnEnd.TheVariants as E
 use Rattle.ts_link.specs.Link.{all_of}
@@ -11,6 +11,7 @@ use Rattle.ts_wire.specs.declared.framing.Framing.{Framing}
 use Rattle.ts_wire.specs.declared.framing.Framing.TheVariants as F
 use Rattle.ts_wire.specs.declared.heads.ResponseHead.{ResponseHead}
 use Rattle.ts_wire.specs.declared.body.BodyState.TheVariants as B
+use Rattle.ts_wire.specs.Body.{BodyOf, IsCutShort}
 use Rattle.ts_wire.specs.Frames.{IsPiece, cut_body, frames}
 use Rattle.ts_wire.specs.Place.{Place, IsFed, state_of}
 use Rattle.ts_block.specs.Relayed.{framing_of, mode_of}
@@ -39,6 +40,13 @@ pub data IsBodyOver (framing : Framing) (origin : LinkSide) (place : Place) : Ty
   closed : framing ≡ F.UntilClose → state_of place.phase ≡ B.Unfinished → origin.look.left ≡ []
       → origin.inbox ≡ [] → IsBodyOver framing origin place
 
+-- What all bytes behind the origin's head have of a body that does not end with them, by the end of its
+-- transaction: it is cut, or it is bad.
+abbrev pub StopsShort : TxnEnd → Framing → List ℕ → List ℕ → Type 0
+StopsShort E.OriginCut framing bytes body = IsCutShort framing bytes body
+StopsShort E.OriginBad framing bytes body = BodyOf framing bytes body B.Bad
+StopsShort end framing bytes body = ⊥
+
 -- one list is a front of the other
 abbrev pub IsFrontOf : List ℕ → List ℕ → Type 0
 IsFrontOf xs ys = (more : List ℕ) × (xs ++ more ≡ ys)
@@ -49,9 +57,20 @@ abbrev pub IsFrontThrough : List TransformLine → Bool → List ℕ → List �
 IsFrontThrough lines true read sent = IsFrontOf sent (compose_lines lines read)
 IsFrontThrough lines false read sent = (more : List ℕ) → IsFrontOf sent (compose_lines lines (read ++ more))
 
+-- The body of the origin's response is cut or bad, and what was sent is what the lines had written once they
+-- got so much of it and no end.
+pub record SendsSoon (setup : Setup) (v : View) (end : TxnEnd) (q : Request) (h : ResponseHead)
+    (sent : List ℕ) : Type 0 where
+  pub rest : List ℕ
+  pub reads : FinalHead (all_of v.origin.look) h rest
+  pub body : List ℕ
+  pub stops : StopsShort end (framing_of q.head h) rest body
+  pub so : sent ≡ soon_lines (body_lines setup q.head h) body
+
 module _ (setup : Setup) (refuses : Type 0) where
   -- The client's text is the head of the origin's response to this request, and a front of its body through
-  -- the lines. `done`: the body has ended; `fin`: so was what the client gets of it.
+  -- the lines. `done`: the body has ended; `fin`: so was what the client gets of it, where the body has ended
+  -- or a line finished early.
   pub record Relayed (v : View) (done fin : Bool) (sent : List ℕ) : Type 0 where
     pub q : Request
     pub h : ResponseHead
@@ -66,7 +85,8 @@ module _ (setup : Setup) (refuses : Type 0) where
     pub mode : v.sent.mode ≡ mode_of (framing_for setup q.head h)
     pub text : HasText v.client v.sent (relayed_head setup q.head h) sent fin
     pub front : IsFrontThrough (body_lines setup q.head h) done read sent
-    pub whole : fin ≡ true → (done ≡ true) × (sent ≡ compose_lines (body_lines setup q.head h) read)
+    pub whole : fin ≡ true → (sent ≡ compose_lines (body_lines setup q.head h) read)
+        × ((done ≡ true) ⊎ (is_early (body_lines setup q.head h) read ≡ true))
 
   -- What holds of the client's text at every moment: it is nothing, or an own answer for its cause, or the
   -- origin's.
@@ -101,13 +121,14 @@ module _ (setup : Setup) (refuses : Type 0) where
     pub has : HasBlock v E.Whole block
     pub text : HasText v.client v.sent block.head block.body true
 
-  -- the client took the block's head, and a front of the body without its end
+  -- the client took the block's head, and what the lines had written of the body, without its end
   pub record ShortEnd (v : View) (end : TxnEnd) : Type 0 where
     pub block : Block
     pub has : HasBlock v end block
     pub sent : List ℕ
     pub text : HasText v.client v.sent block.head sent false
     pub relayed : Relayed v false false sent
+    pub soon : SendsSoon setup v end relayed.q relayed.h sent
 
   -- the client took all of what it gets after a fault of the origin's link
   pub record FaultEnd (v : View) : Type 0 where

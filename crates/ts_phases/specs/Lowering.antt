@@ -117,10 +117,10 @@ module _ (setup : Setup) where
   own_room = own_length O.BadRequest + own_length O.Forbidden + own_length O.NotImplemented
       + own_length O.BadGateway
 
-  -- a chain that has not begun: each line's text passes each boundary, and each stage ends, and may pass an
-  -- error on
+  -- a chain that has not begun: each line's text passes each boundary, and each stage ends, and may make two
+  -- calls upstream
   abbrev pub chain_room : ℕ
-  chain_room = passes setup.transforms.items (lines_length setup.transforms.items + 2)
+  chain_room = passes setup.transforms.items (lines_length setup.transforms.items + 3)
 
   -- what an answer makes, whichever it is
   abbrev pub answer_room : ℕ

@@ -1,7 +1,7 @@
 -- The events of the continuations while a body is passed on.
 use Rattle.std.proofs.Common.{◌≡◌, ◌≢◌, ℕ, ◌≤◌, ◌⊎◌, inl, inr, List, [], ◌∷◌, Bool, true, false, Option, Some}
 use Rattle.std.proofs.Common.{None, Result, refl, sym, ap, subst, ◌∙◌, arith}
-use Rattle.std.specs.Prelude.{⊤}
+use Rattle.std.specs.Prelude.{◌+◌, ⊤}
 use Rattle.ts_config.specs.declared.setup.Setup.{Setup}
 use Rattle.ts_hooks.specs.declared.txn_end.TxnEnd.TheVariants as E
 use Rattle.ts_journal.specs.declared.entry.TheConstants.{GREATEST}
@@ -21,22 +21,24 @@ use Rattle.ts_transform.proofs.Seating.{seated_as, seated_behind, seated_then}
 use Rattle.ts_transform.proofs.Kept.{acts_none, acts_then, few_refl, keeps_refl, kept_all}
 use Rattle.ts_transform.specs.Acting.{StillGives}
 use Rattle.ts_transform.specs.Driven.{HandlesDriven, Loses}
-use Rattle.ts_transform.specs.Flow.{ChainState, EndsInOrder, MustRead}
+use Rattle.ts_transform.specs.Flow.{ChainState, EndsInOrder}
+use Rattle.ts_transform.specs.declared.transform.Transform as transform
 use Rattle.ts_wire.specs.Place.{Place}
 use Rattle.ts_transform.specs.Carrying.{IsJoined}
 use Rattle.ts_phases.specs.View.{View}
 use Rattle.ts_phases.specs.Ends.{EndFact}
 use Rattle.ts_relay.specs.Feeding.{OnGoes}
 use Rattle.ts_relay.specs.Finishing.{LeadsBody}
-use Rattle.ts_relay.specs.Relaying.{DrivesOn, RelaysBody, StepsChain, step_after}
+use Rattle.ts_relay.specs.Relaying.{DrivesOn, RelaysBody, StepsChain, set_by_stage, step_after}
 use Rattle.ts_relay.specs.Entering.{BeginsRelay, BeginsRunning}
-use Rattle.ts_relay.specs.Duties.{BeginsBody, DoesOwnWork, EndsRouse, IsBodyCovered, IsBodyJoined}
+use Rattle.ts_relay.specs.Duties.{BeginsBody, DoesOwnWork, EndsRouse, IsBodyCovered, IsBodyJoined, MustReadOn}
 use Rattle.ts_relay.specs.Duties.{HandlesBody, RunsOr, SettledAs, SettlesAfter, SettlesBody, TellsDuty}
-use Rattle.ts_relay.specs.Duties.{UnlessLacking, WhileGoes, body_seats, relay_seats}
+use Rattle.ts_relay.specs.Duties.{UnlessLacking, WhileGoes, body_seats, relay_seats, set_by_beginning}
 use Rattle.ts_relay.specs.declared.last_writes.BodyStep.{BodyStep}
 use Rattle.ts_relay.specs.declared.last_writes.BodyStep.TheVariants as S
 use Rattle.ts_relay.specs.declared.relay.TheConstants.{MAIN, FIRST, READER}
 use Rattle.ts_relay.specs.declared.relay.Relay.{Relay}
+use Rattle.ts_relay.specs.declared.relay.Short.{Short}
 use Rattle.ts_relay.proofs.Chaining.{drives_after, grows_next}
 use Rattle.ts_relay.proofs.Duty.{stage_keeps}
 use Rattle.ts_relay.proofs.Relaying.{leads_after, relays_lacks}
@@ -45,8 +47,8 @@ use Rattle.ts_relay.proofs.Settling.{only_goes, settled_has, while_on}
 -- ---- both ends are roused
 
 covered_by : {P : Type 0} (step : BodyStep) (writes reads : Bool) (v : View) (u : Option StageContinuation)
-    (s : Relay P) (b : Context) → TellsDuty writes v s.driven.chain
-    → (MustRead s.driven.chain → reads ≡ true) → OnGoes step (((writes ≡ true → IsRousedIf u) × (reads ≡ true
+    (s : Relay P) (b : Context) → TellsDuty writes v s
+    → (MustReadOn s → reads ≡ true) → OnGoes step (((writes ≡ true → IsRousedIf u) × (reads ≡ true
     → IsRousedIf s.reader)) ⊎ (GREATEST ≤ b.log.state.next))
     → s.driven.running ≡ true → OnGoes step (IsBodyCovered v u s b.log.state.next)
 covered_by S.Goes writes reads v u s b tells must (inl (main, reader)) runs =
@@ -64,7 +66,7 @@ covered_spent X _ v u s next goes spent = absurd goes
 
 -- what is left once the two ends were roused that must work
 pub settles : {P : Type 0} (step : BodyStep) (writes : Bool) (v : View) (t u : Option StageContinuation)
-    (r s : Relay P) (a b : Context) → IsOrderly a → TellsDuty writes v r.driven.chain
+    (r s : Relay P) (a b : Context) → IsOrderly a → TellsDuty writes v r
     → EndsRouse step writes t u r s a b → s ≡ record r { reader = s.reader } → SettlesBody step v t u r s a b
 settles step writes v t u r s a b orderly tells (reads, must, only, rouses) same =
     let driven : s.driven ≡ r.driven = ap (λ x. x.driven) same in
@@ -81,8 +83,11 @@ settles step writes v t u r s a b orderly tells (reads, must, only, rouses) same
                 d.of_stages;
             cover = d.cover;
           }) before);
-      covered = by_run step (subst (λ d. TellsDuty writes v d.chain) (sym driven) tells)
-          (λ duty. must (subst (λ d. MustRead d.chain) driven duty)) rouses.roused
+      covered = by_run step (subst (TellsDuty writes v) (sym same) (record {
+        must_send = tells.must_send;
+        only = tells.only;
+      }))
+          (λ duty. must (subst (λ x. MustReadOn x) same duty)) rouses.roused
           (λ runs. ap (λ d. d.running) driven ∙ runs);
       goes = only_goes _ step rouses.roused;
       later = grows_next a b orderly rouses.adds.grows;
@@ -92,7 +97,7 @@ settles step writes v t u r s a b orderly tells (reads, must, only, rouses) same
           (only duty));
     }
   where
-    by_run : (step : BodyStep) → TellsDuty writes v s.driven.chain → (MustRead s.driven.chain → reads ≡ true)
+    by_run : (step : BodyStep) → TellsDuty writes v s → (MustReadOn s → reads ≡ true)
         → OnGoes step (((writes ≡ true → IsRousedIf u) × (reads ≡ true → IsRousedIf s.reader))
         ⊎ (GREATEST ≤ b.log.state.next))
         → (r.driven.running ≡ true → s.driven.running ≡ true) → RunsOr r a.log.state.next
@@ -209,8 +214,7 @@ handles_by : {P : Type 0} (role : ℕ) (event : Event) (step result : BodyStep) 
     → ((before : List Pending) → IsHandled before a.log.state.pending a.roles role event → IsBodyJoined t r
     before a.roles → IsBodyJoined m q c.log.state.pending c.roles)
     → KeepsSeated (body_seats t r) (body_seats m q) a c
-    → (EndsInOrder r.driven.chain.given r.driven.chain.stages → EndsInOrder q.driven.chain.given
-    q.driven.chain.stages)
+    → (EndsInOrder true r.driven.chain.stages → EndsInOrder true q.driven.chain.stages)
     → s.driven ≡ q.driven → SettlesAfter step result w m u q s c b → DoesOwnWork role v w
     → HandlesBody result role event v w t u r s a b
 handles_by role event step result v w t m u r q s a c b orderly acts on joined seated ordered same after own =
@@ -229,7 +233,7 @@ handles_by role event step result v w t m u r q s a c b orderly acts on joined s
       runs = runs_after step result v t r q s a.log.state.next b.log.state.next c (grows_next a c orderly
           acts.grows) after.later on same after.settled;
       seated = seated_then (body_seats t r) (body_seats m q) (body_seats u s) a c b seated after.seated;
-      ordered = λ h. subst (λ d. EndsInOrder d.chain.given d.chain.stages) (sym same) (ordered h);
+      ordered = λ h. subst (λ d. EndsInOrder true d.chain.stages) (sym same) (ordered h);
     }
 
 -- a side is touched by its own end alone
@@ -358,8 +362,7 @@ pub handles_stage : {P : Type 0} (role : ℕ) (event : Event) (f : Result ⊤ Se
     → KeepsOthers FIRST r.driven.table.items a c → HandlesDriven FIRST role event r.driven q.driven a c
     → role ≢ MAIN → role ≢ READER → q.reader ≡ r.reader
     → KeepsSeated r.driven.table.items q.driven.table.items a c
-    → (EndsInOrder r.driven.chain.given r.driven.chain.stages → EndsInOrder q.driven.chain.given
-    q.driven.chain.stages)
+    → (EndsInOrder true r.driven.chain.stages → EndsInOrder true q.driven.chain.stages)
     → s.driven ≡ q.driven → SettlesAfter step result v t u q s c b → HandlesBody result role event v v t u r s
     a b
 handles_stage role event f step result v t u r q s a c b orderly is acts loses others driven not_main
@@ -379,28 +382,30 @@ handles_stage role event f step result v t u r q s a c b orderly is acts loses o
     ordered kept after (no_work role v v refl)
 
 -- where the event of a stage leads
-pub stage_leads : {P : Type 0} (setup : Setup) (refuses : Type 0) (rest : P → List ℕ → List ℕ) (v : View)
-    (c d : ChainState P) (place : Place) (ts us : List (Option StageContinuation))
+pub stage_leads : {P L : Type 0} (setup : Setup) (refuses : Type 0) (stage : transform.Ghosts P L) (v : View)
+    (c d : ChainState P) (place : Place) (short : Option Short) (ts us : List (Option StageContinuation))
     (a b : Context) (f : Result ⊤ SetFault) (step : BodyStep) → step ≡ step_after f
-    → StillGives rest c d ts us a b → RelaysBody setup refuses rest v c place
-    → LeadsBody setup refuses (RelaysBody setup refuses rest v d place) v step
-stage_leads setup refuses rest v c d place ts us a b f step is gives r =
-    let on = stage_keeps setup refuses rest v c d place ts us a b gives r in
-    subst (LeadsBody setup refuses (RelaysBody setup refuses rest v d place) v) (sym is)
-    (leads_after setup refuses (RelaysBody setup refuses rest v d place) v f on (relays_lacks setup refuses
-    rest v d place on))
+    → StillGives stage.rest stage.soon c d ts us a b → RelaysBody setup refuses stage v c place short
+    → LeadsBody setup refuses (RelaysBody setup refuses stage v d place short) v step
+stage_leads setup refuses stage v c d place short ts us a b f step is gives r =
+    let on = stage_keeps setup refuses stage v c d place short ts us a b gives r in
+    subst (LeadsBody setup refuses (RelaysBody setup refuses stage v d place short) v) (sym is)
+    (leads_after setup refuses (RelaysBody setup refuses stage v d place short) v f on
+    (relays_lacks setup refuses stage short v d place on))
 
 -- what is settled speaks of the chain that it was
-pub settled_as : {P : Type 0} (setup : Setup) (refuses : Type 0) (rest : P → List ℕ → List ℕ) (v : View)
+pub settled_as : {P L : Type 0} (setup : Setup) (refuses : Type 0) (stage : transform.Ghosts P L) (v : View)
     (q s : Relay P) (step result : BodyStep) → SettledAs step result
-    → s ≡ record q { reader = s.reader } → LeadsBody setup refuses (RelaysBody setup refuses rest v
-    q.driven.chain q.body) v step
-    → LeadsBody setup refuses (RelaysBody setup refuses rest v s.driven.chain s.body) v result
-settled_as setup refuses rest v q s step result settled same h =
-    subst (λ x. LeadsBody setup refuses (RelaysBody setup refuses rest v x.driven.chain x.body) v result)
+    → s ≡ record q { reader = s.reader } → LeadsBody setup refuses (RelaysBody setup refuses stage v
+    q.driven.chain q.body q.short) v step
+    → LeadsBody setup refuses (RelaysBody setup refuses stage v s.driven.chain s.body s.short) v result
+settled_as setup refuses stage v q s step result settled same h =
+    subst (λ x. LeadsBody setup refuses (RelaysBody setup refuses stage v x.driven.chain x.body x.short) v
+    result)
     (sym same)
-    (settled_leads setup refuses (RelaysBody setup refuses rest v q.driven.chain q.body) v step result settled
-    (relays_lacks setup refuses rest v q.driven.chain q.body) h)
+    (settled_leads setup refuses (RelaysBody setup refuses stage v q.driven.chain q.body q.short) v step
+    result
+    settled (relays_lacks setup refuses stage q.short v q.driven.chain q.body) h)
 
 -- ---- a body begins
 
@@ -443,10 +448,10 @@ begins_goes S.Lacks result m c runs settled = subst (λ (x : BodyStep). OnGoes x
 begins_goes _ result m c runs settled = absurd runs
 
 pub begins_body : {P : Type 0} (step result : BodyStep) (w : View) (t u : Option StageContinuation)
-    (m s : Relay P) (a c b : Context) → BeginsRelay step m a c → s.driven ≡ m.driven
-    → SettlesAfter step result w t u m s c b → BeginsBody result w t u s a b
-begins_body step result w t u m s a c b begins same after = record {
-  acts = acts_then 2 2 4 (omega arith) begins.chain.within
+    (stages : ℕ) (m s : Relay P) (a c b : Context) → BeginsRelay step stages m a c → s.driven ≡ m.driven
+    → SettlesAfter step result w t u m s c b → BeginsBody result stages w t u s a b
+begins_body step result w t u stages m s a c b begins same after = record {
+  acts = acts_then (stages + set_by_stage) 2 (set_by_beginning stages) (omega arith) begins.chain.within
       (record {
         grows = after.adds.grows;
         turn = after.adds.keeps.turn;
@@ -464,5 +469,5 @@ begins_body step result w t u m s a c b begins same after = record {
   runs = begins_runs step result m s c b.log.state.next after.later same begins.chain.runs after.settled;
   seated = seated_then (t ∷ []) (body_seats t m) (body_seats u s) a c b (seated_behind t [] (relay_seats m) a
       c begins.seated) after.seated;
-  ordered = subst (λ d. EndsInOrder d.chain.given d.chain.stages) (sym same) begins.ordered;
+  ordered = subst (λ d. EndsInOrder true d.chain.stages) (sym same) begins.ordered;
 }

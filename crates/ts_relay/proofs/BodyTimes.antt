@@ -159,8 +159,8 @@ begins_in_time step d e a b c f same started driven steps runs =
     started) steps.adds.keeps (steps.only FIRST named))
 
 -- the ends are roused behind that, at once
-pub body_in_time : {P : Type 0} (step : BodyStep) (t : Option StageContinuation) (m s : Relay P)
-    (a c b : Context) → BeginsRelay step m a c → s.driven ≡ m.driven → AddsSome 2 c b
+pub body_in_time : {P : Type 0} {stages : ℕ} (step : BodyStep) (t : Option StageContinuation) (m s : Relay P)
+    (a c b : Context) → BeginsRelay step stages m a c → s.driven ≡ m.driven → AddsSome 2 c b
     → (m.driven.running ≡ true → SetsOnly (IsOfRoleFrom FIRST c.roles) a c)
     → OnlyOfEnds (pause_if (is_late step) 0) (pause_if (is_late step) 0) t m.reader c b → BeginsInTime t s a b
 body_in_time step t m s a c b begins same adds first ends runs of_main =

@@ -1,6 +1,6 @@
 -- What a step of a body leaves of its chain and of what is pending.
-use Rattle.std.proofs.Common.{◌≡◌, ℕ, ◌+◌, ◌≤◌, ◌⊎◌, inl, inr, List, Option, Some, Bool, true, false, Result}
-use Rattle.std.proofs.Common.{Ok, Err, refl, sym, ap, subst, arith, ◌∙◌}
+use Rattle.std.proofs.Common.{◌≡◌, ℕ, ◌+◌, ◌≤◌, ◌⊎◌, inl, inr, List, Option, Some, true, Result, Ok, Err}
+use Rattle.std.proofs.Common.{refl, sym, ap, subst, arith, ◌∙◌}
 use Rattle.std.specs.Prelude.{⊤}
 use Rattle.ts_journal.specs.declared.entry.TheConstants.{GREATEST}
 use Rattle.ts_journal.proofs.Later.{extends_later}
@@ -17,7 +17,7 @@ use Rattle.ts_transform.specs.Driven.{Gives, Loses, SameSeats, StaysDriven}
 use Rattle.ts_transform.specs.declared.driven.DrivenChain.{DrivenChain}
 use Rattle.ts_transform.specs.declared.loss.Loss.{Loss}
 use Rattle.ts_transform.specs.declared.loss.Loss.TheVariants as L
-use Rattle.ts_transform.proofs.Carrying.{order_any, takes_order}
+use Rattle.ts_transform.proofs.Carrying.{takes_order}
 use Rattle.ts_transform.proofs.Joined.{runs_before}
 use Rattle.ts_transform.proofs.Kept.{few_refl, few_trans, keeps_refl, keeps_trans}
 use Rattle.ts_transform.proofs.Setting.{named_kept, only_none, only_trans, only_weaker}
@@ -83,7 +83,7 @@ of_rouses pause c ts a b only first named =
 pub chain_after : {P Live : Type 0} (most : ℕ) (r : Result ⊤ SetFault) (d e : DrivenChain P) (a b : Context)
     → AddsEvents most Live r a b → StaysDriven d e a b → Loses r d e a b
     → SameSeats d e a b → (pause : P → ℕ) → OnlyRouses pause e.chain d.table.items a b
-    → (EndsInOrder d.chain.given d.chain.stages → EndsInOrder e.chain.given e.chain.stages)
+    → (EndsInOrder true d.chain.stages → EndsInOrder true e.chain.stages)
     → StepsChain (step_after r) most d e a b
 chain_after most r d e a b adds driven loses seats pause only ordered = record {
   adds = record { grows = adds.grows; keeps = adds.keeps; few = adds.few };
@@ -166,36 +166,24 @@ chain_more step m n d e a b more h = record {
 
 -- ---- a stage ends only behind those before it
 
-given_order : {P : Type 0} (c d : ChainState P) → d.stages ≡ c.stages → (c.given ≡ true → d.given ≡ true)
-    → EndsInOrder c.given c.stages → EndsInOrder d.given d.stages
-given_order c d stages up ordered = subst (EndsInOrder d.given) (sym stages) (by_given c.given d.given up
-    ordered)
-  where
-    by_given : (b x : Bool) → (b ≡ true → x ≡ true) → EndsInOrder b c.stages → EndsInOrder x c.stages
-    by_given false x up h = order_any x c.stages h
-    by_given true x up h = subst (λ (y : Bool). EndsInOrder y c.stages) (sym (up refl)) h
-
 pub taken_order : {P : Type 0} (rest : P → List ℕ → List ℕ) (n : ℕ) (c d : ChainState P)
-    → TakesAway rest n c d → EndsInOrder c.given c.stages → EndsInOrder d.given d.stages
-taken_order rest n c d takes ordered = subst (λ (b : Bool). EndsInOrder b d.stages) (sym takes.given)
-    (takes_order c.given c.first c.stages n d.first d.stages takes.takes ordered)
+    → TakesAway rest n c d → EndsInOrder true c.stages → EndsInOrder true d.stages
+taken_order rest n c d takes ordered = takes_order true c.first c.stages n d.first d.stages takes.takes
+    ordered
 
--- where bytes came to the chain, or its end
-pub given_end : {P : Type 0} (c d : ChainState P) → d ≡ record c { given = true }
-    → EndsInOrder c.given c.stages → EndsInOrder d.given d.stages
-given_end c d is = given_order c d (ap (λ (k : ChainState _). k.stages) is) (λ up. ap (λ (k : ChainState _).
-    k.given) is)
+-- where bytes came to the chain, or its end, its stages are as they were
+same_order : {P : Type 0} (c d : ChainState P) → d.stages ≡ c.stages → EndsInOrder true c.stages
+    → EndsInOrder true d.stages
+same_order c d same ordered = subst (EndsInOrder true) (sym same) ordered
 
-same_order : {P : Type 0} (c d : ChainState P) → d.stages ≡ c.stages → d.given ≡ c.given
-    → EndsInOrder c.given c.stages → EndsInOrder d.given d.stages
-same_order c d stages same = given_order c d stages (λ up. same ∙ up)
+pub given_end : {P : Type 0} (c d : ChainState P) → d ≡ record c { given = true } → EndsInOrder true c.stages
+    → EndsInOrder true d.stages
+given_end c d is = same_order c d (ap (λ (k : ChainState _). k.stages) is)
 
 pub given_bytes : {P : Type 0} (rest : P → List ℕ → List ℕ) (r : Result ⊤ SetFault) (part : List ℕ)
-    (c d : ChainState P) → Gives r rest part c d → EndsInOrder c.given c.stages
-    → EndsInOrder d.given d.stages
+    (c d : ChainState P) → Gives r rest part c d → EndsInOrder true c.stages → EndsInOrder true d.stages
 given_bytes rest (Ok x) part c d gives = same_order c d (ap (λ (k : ChainState _). k.stages) gives.chain)
-    (ap (λ (k : ChainState _). k.given) gives.chain)
 given_bytes rest (Err fault) part c d (inl gives) = same_order c d (ap (λ (k : ChainState _). k.stages)
-    gives.chain) (ap (λ (k : ChainState _). k.given) gives.chain)
+    gives.chain)
 given_bytes rest (Err fault) part c d (inr (lacks, same)) = same_order c d
-    (ap (λ (k : ChainState _). k.stages) same) (ap (λ (k : ChainState _). k.given) same)
+    (ap (λ (k : ChainState _). k.stages) same)

@@ -1,49 +1,58 @@
 -- The duties of a body: what a stage's event keeps, who is roused, and that none is left where nothing is
 -- pending.
-use Rattle.std.proofs.Common.{◌≡◌, ℕ, ◌≤◌, ◌⊎◌, inl, inr, List, [], ◌∷◌, ◌++◌, Bool, true, false, Option}
-use Rattle.std.proofs.Common.{Result, Ok, Err, refl, sym, ap, subst, ◌∙◌, arith}
-use Rattle.std.specs.Prelude.{OnOk, ⊤}
-use Rattle.std.specs.Bool.{OnTrue}
+use Rattle.std.proofs.Common.{◌≡◌, ◌≤◌, ◌⊎◌, inl, inr, List, [], ◌∷◌, Bool, true, false, Option, None, Some}
+use Rattle.std.proofs.Common.{Result, Ok, Err, refl, sym, subst, ◌∙◌, arith}
+use Rattle.std.specs.Prelude.{◌≢◌, OnOk, is_some, ⊤}
+use Rattle.std.proofs.lemmas.Bool.{false≢true}
 use Rattle.ts_config.specs.declared.setup.Setup.{Setup}
 use Rattle.ts_journal.specs.declared.entry.TheConstants.{GREATEST}
+use Rattle.ts_lists.proofs.Sizes.{empty_unless}
 use Rattle.ts_group.specs.declared.action.Named.{Named}
 use Rattle.ts_group.specs.declared.action.SetFault.{SetFault}
 use Rattle.ts_group.specs.declared.action.SetFault.TheVariants as F
 use Rattle.ts_group.specs.Context.{Context, IsOrderly}
 use Rattle.ts_group.proofs.Grows.{grows_trans}
-use Rattle.ts_transform.specs.Flow.{ChainState, EndsInOrder}
+use Rattle.ts_transform.specs.Flow.{ChainState, EndsInOrder, IsFinished, MustWrite, Rests, client_wait}
+use Rattle.ts_transform.specs.Carrying.{IsJoined}
+use Rattle.ts_transform.specs.declared.transform.Transform as transform
 use Rattle.ts_transform.specs.Acting.{StillGives}
 use Rattle.ts_transform.specs.Driving.{AddsEvents, IsRousedIf, KeepsStage}
 use Rattle.ts_transform.specs.declared.continuation.StageContinuation.{StageContinuation}
 use Rattle.ts_transform.specs.Seats.{KeepsSeated}
 use Rattle.ts_transform.proofs.Joined.{all_carried}
+use Rattle.ts_transform.proofs.Taking.{none-roused}
 pub use Rattle.ts_transform.proofs.Joined.{none_pending}
 use Rattle.ts_transform.proofs.Seating.{seated_behind, seated_front, seated_then}
 use Rattle.ts_transform.proofs.Kept.{few_trans, kept_if, keeps_trans}
 use Rattle.ts_wire.specs.Place.{Place}
+use Rattle.ts_block.specs.Block.{body_lines}
 use Rattle.ts_phases.specs.View.{View}
 use Rattle.ts_relay.specs.Feeding.{OnGoes}
 use Rattle.ts_relay.specs.Relaying.{GivesEnd, RelaysBody, step_after}
-use Rattle.ts_relay.specs.Duties.{AreBodyEndsRoused, IsBodyJoined, RousesBoth, RousesOne}
+use Rattle.ts_relay.specs.Duties.{AreBodyEndsRoused, IsBodyJoined, MustEnd, MustSend, RousesBoth, RousesOne}
+use Rattle.ts_relay.specs.Duties.{TellsDuty}
 use Rattle.ts_relay.specs.declared.last_writes.BodyStep.{BodyStep}
 use Rattle.ts_relay.specs.declared.last_writes.BodyStep.TheVariants as S
 use Rattle.ts_relay.specs.declared.relay.TheConstants.{MAIN}
 use Rattle.ts_relay.specs.declared.relay.Relay.{Relay}
+use Rattle.ts_relay.specs.declared.relay.Short.{Short}
 use Rattle.ts_relay.proofs.Chaining.{grows_next}
+use Rattle.ts_relay.proofs.Early.{sends_kept}
 
 -- ---- a stage's event
 
 -- what was sent, and what the chain still gives, is as it was
-pub stage_keeps : {P : Type 0} (setup : Setup) (refuses : Type 0) (rest : P → List ℕ → List ℕ) (v : View)
-    (c d : ChainState P) (place : Place)
-    (ts us : List (Option StageContinuation)) (a b : Context) → StillGives rest c d ts us a b
-    → RelaysBody setup refuses rest v c place → RelaysBody setup refuses rest v d place
-stage_keeps setup refuses rest v c d place ts us a b gives r = record {
+pub stage_keeps : {P L : Type 0} (setup : Setup) (refuses : Type 0) (stage : transform.Ghosts P L) (v : View)
+    (c d : ChainState P) (place : Place) (short : Option Short)
+    (ts us : List (Option StageContinuation)) (a b : Context)
+    → StillGives stage.rest stage.soon c d ts us a b
+    → RelaysBody setup refuses stage v c place short → RelaysBody setup refuses stage v d place short
+stage_keeps setup refuses stage v c d place short ts us a b gives r = record {
   q = r.q;
   h = r.h;
   read = r.read;
   reads = r.reads;
-  gives_end = subst (λ (g : Bool). GivesEnd setup refuses r.q r.h v.origin place g) (sym gives.given)
+  gives_end = subst (λ (g : Bool). GivesEnd setup refuses r.q r.h v.origin place g short) (sym gives.given)
       r.gives_end;
   sends = record {
     count = r.sends.count;
@@ -51,9 +60,9 @@ stage_keeps setup refuses rest v c d place ts us a b gives r = record {
     mode = r.sends.mode;
     body = r.sends.body;
     text = r.sends.text;
-    flows = λ z last.
-        let before = subst (λ (g : Bool). OnTrue g (z ≡ [])) gives.given last in
-        ap (λ (x : List ℕ). r.sends.body ++ x) (gives.flow z before) ∙ r.sends.flows z before;
+    sends = sends_kept stage.rest stage.soon (body_lines setup r.q.head r.h) r.read r.sends.body c d
+        gives.flows
+        gives.given r.sends.sends;
   };
 }
 
@@ -142,14 +151,58 @@ rouses_lacks step writes reads t u r a b main = record {
   rests = λ of_main of_reader. main.rests of_main;
 }
 
+-- ---- what the first continuation must do
+
+stops_there : (short : Option Short) → is_some short ≡ true → short ≢ None
+stops_there None is none = false≢true is
+stops_there (Some why) is none = (let wrong : ◌≡◌ {A = Option Short} (Some why) None = none in cc)
+
+-- where nothing waits and the chain has not finished, it must work where a body that stops short rests
+pub tells_short : {P : Type 0} (rests : Bool) (v : View) (r : Relay P) → v.client.outbox ≡ []
+    → (MustWrite r.driven.chain → ⊥) → (IsFinished r.driven.chain → ⊥) → is_some r.short ≡ true
+    → ((rests ≡ true → Rests r.driven.chain) × (Rests r.driven.chain → rests ≡ true)) → TellsDuty rests v r
+tells_short {P} rests v r empty none more stops both = record {
+  must_send = λ so. inr (inr (inr (stops_there r.short stops, both.0 so)));
+  only = by_must;
+}
+  where
+    by_must : MustSend v r → rests ≡ true
+    by_must (inl some) = absurd (some empty)
+    by_must (inr (inl some)) = absurd (none some)
+    by_must (inr (inr (inl all))) = absurd (more all)
+    by_must (inr (inr (inr (stops, resting)))) = both.1 resting
+
 -- ---- no wake is lost
 
--- with nothing pending no body is passed on: its chain would have given all, and the first continuation would
--- be roused
+-- with nothing pending no stage must work, and nothing waits for the client
+none_rests : {P : Type 0} (v : View) (main : Option StageContinuation) (r : Relay P) (roles : List Named)
+    → IsJoined r.driven.chain r.driven.table.items main r.reader [] roles → AreBodyEndsRoused v main r
+    → Rests r.driven.chain
+none_rests v main r roles joined ends = record {
+  none = λ j must. none-roused roles 3 r.driven.table.items j joined.stages.of_stages (joined.stages.cover j
+      must);
+  wait = empty_unless (client_wait r.driven.chain) (λ some. none_pending roles MAIN main joined.of_writer
+      (ends.writes (inr (inl some))));
+}
+
+-- with nothing pending no body is passed on: its chain would have given all, or rest where no more of it
+-- comes,
+-- and the first continuation would be roused
 pub no_lost_wake : {P : Type 0} (v : View) (main : Option StageContinuation) (r : Relay P)
     (roles : List Named) → IsBodyJoined main r [] roles → r.driven.running ≡ true
-    → AreBodyEndsRoused v main r → EndsInOrder r.driven.chain.given r.driven.chain.stages → ⊥
-no_lost_wake v main r roles joined runs ends ordered =
-    let all = all_carried r.driven.chain r.driven.table.items main r.reader roles (joined runs)
-    (record { writes = λ some. ends.writes (inr (inl some)); reads = ends.reads }) ordered in
-    none_pending roles MAIN main (joined runs).of_writer (ends.writes (inr (inr (all.1, all.0))))
+    → AreBodyEndsRoused v main r → EndsInOrder true r.driven.chain.stages → ⊥
+no_lost_wake v main r roles joined runs ends ordered = by_short r.short refl
+  where
+    roused : MustEnd r → ⊥
+    roused must = none_pending roles MAIN main (joined runs).of_writer (ends.writes (inr (inr must)))
+
+    by_short : (short : Option Short) → r.short ≡ short → ⊥
+    by_short None comes =
+        roused (inl (all_carried r.driven.chain r.driven.table.items main r.reader roles (joined runs)
+        (record { writes = λ some. ends.writes (inr (inl some)); reads = λ must. ends.reads (comes, must) })
+        ordered).0)
+    by_short (Some end) stops =
+        roused (inr (
+          λ none. (let wrong : ◌≡◌ {A = Option Short} (Some end) None = sym stops ∙ none in cc),
+          none_rests v main r roles (joined runs) ends,
+        ))

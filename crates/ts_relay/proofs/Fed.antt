@@ -1,12 +1,11 @@
 -- A reader of bodies that is fed with what waits, and whether a body ends with its bytes.
-use Rattle.std.proofs.Common.{◌≡◌, ◌≢◌, ℕ, ◌<◌, ◌≤◌, ◌⊎◌, inl, inr, arith, List, [], length, take, drop}
-use Rattle.std.proofs.Common.{true, false, refl, subst, ◌∙◌}
+use Rattle.std.proofs.Common.{◌≡◌, ◌≢◌, ℕ, ◌<◌, ◌≤◌, ◌⊎◌, inl, inr, arith, List, [], length, take, drop, true}
+use Rattle.std.proofs.Common.{false, ap, refl, subst, ◌∙◌}
 use Rattle.std.specs.Prelude.{slice_range, ◌↔◌}
 use Rattle.ts_lists.proofs.Fronts.{front_then_rest}
 use Rattle.httparse.proofs.RunLemmas.{length-slice_range}
 use Rattle.std.proofs.lemmas.List.{append-nil, length-take}
 use Rattle.std.proofs.lemmas.Bool.{false≢true, true≢false}
-use Rattle.ts_transform.specs.Flow.{ChainState}
 use Rattle.ts_wire.specs.declared.body.BodyEnd.{BodyEnd}
 use Rattle.ts_wire.specs.declared.body.BodyEnd.TheVariants as N
 use Rattle.ts_wire.specs.declared.body.BodyState.{BodyState}
@@ -17,7 +16,8 @@ use Rattle.ts_wire.specs.declared.framing.Framing.TheVariants as G
 use Rattle.ts_wire.specs.Body.{BodyOf, IsCutShort}
 use Rattle.ts_wire.specs.Place.{GoesOn, IsFed, Place, TakesBytes, state_of}
 use Rattle.ts_wire.proofs.PlaceBody.{place_body}
-use Rattle.ts_relay.specs.Feeding.{EndsHere, FeedsBody, GetsPart}
+use Rattle.ts_relay.specs.Feeding.{EndsHere, FeedsBody, GetsPart, short_if}
+use Rattle.ts_relay.specs.declared.relay.Relay.{Relay}
 
 -- no more of it is body
 part_within : (block : List ℕ) (from to n : ℕ) → from ≤ to → to ≤ n → n ≤ length block
@@ -44,19 +44,23 @@ takes_some old new block fed some takes is = by_progress (takes.progress some is
     by_progress (inl taken) = inl (omega (arith, taken, takes.taken, length-take fed.taken block))
     by_progress (inr over) = inr (λ e. over (takes.state ∙ e))
 
-pub feeds_by : {P : Type 0} (old new : Place) (before after block : List ℕ) (fed : wire.Fed) (c d : ChainState
-    P) → 0 < length block → block ≡ take (length block) before
-    → TakesBytes old new block fed → GoesOn old new (take fed.taken block) (slice_range block fed.from fed.to)
+pub feeds_by : {P : Type 0} (r s : Relay P) (before after block : List ℕ) (fed : wire.Fed) → 0 < length block
+    → block ≡ take (length block) before → TakesBytes r.body s.body block fed
+    → GoesOn r.body s.body (take fed.taken block) (slice_range block fed.from fed.to)
     → after ≡ drop fed.taken before
-    → GetsPart fed.state (slice_range block fed.from fed.to) c d → FeedsBody old new before after c d
-feeds_by old new before after block fed c d some front takes goes left gets = record {
+    → GetsPart fed.state (slice_range block fed.from fed.to) r.driven.chain s.driven.chain
+    → s.short ≡ short_if fed.state r.short → FeedsBody r s before after
+feeds_by r s before after block fed some front takes goes left gets short = record {
   piece = take fed.taken block;
   part = slice_range block fed.from fed.to;
   within = part_within block fed.from fed.to fed.taken takes.ordered takes.within takes.taken;
   taken = front_then_rest before after block fed.taken front takes.taken left;
-  progress = takes_some old new block fed some takes;
+  progress = takes_some r.body s.body block fed some takes;
   goes = goes;
-  gets = subst (λ (s : BodyState). GetsPart s (slice_range block fed.from fed.to) c d) takes.state gets;
+  gets = subst (λ (b : BodyState). GetsPart b (slice_range block fed.from fed.to) r.driven.chain
+      s.driven.chain)
+      takes.state gets;
+  short = short ∙ ap (λ (b : BodyState). short_if b r.short) takes.state;
 }
 
 -- ---- whether a body ends with its bytes

@@ -10,9 +10,9 @@ use Rattle.ts_block.specs.Block.{IsBlock, relayed_head}
 use Rattle.ts_phases.specs.View.{LinkSide, View}
 use Rattle.ts_phases.specs.Moving.{SideWrites, WritesClient}
 use Rattle.ts_phases.specs.Facts.{OriginTook, Served}
-use Rattle.ts_phases.specs.Ends.{AnyEnd, EndFact, EndsBy, HasText, Relayed, SomeText}
+use Rattle.ts_phases.specs.Ends.{AnyEnd, EndFact, EndsBy, HasBlock, HasText, Relayed, ShortEnd, SomeText}
 use Rattle.ts_phases.specs.Ends as ends
-use Rattle.ts_relay.specs.Finishing.{IsFinishing, QueuesBlock, QueuesFor}
+use Rattle.ts_relay.specs.Finishing.{IsFinishing, QueuesBlock, QueuesFor, QueuesShort}
 use Rattle.ts_phases.proofs.OneSide.{write_count, write_failed}
 use Rattle.ts_phases.proofs.Owns.{all_took}
 use Rattle.ts_relay.proofs.Relaying.{text_written}
@@ -21,9 +21,9 @@ module _ (setup : Setup) (refuses : Type 0) where
   -- ---- whatever the end
 
   some_text : (v : View) (end : TxnEnd) → QueuesFor setup refuses v end → SomeText setup refuses v
-  some_text v E.Whole q = ends.relayed true true q.sent q.relayed
-  some_text v E.OriginCut q = ends.relayed false false q.sent q.relayed
-  some_text v E.OriginBad q = ends.relayed false false q.sent q.relayed
+  some_text v E.Whole q = ends.relayed q.done true q.queues.sent q.relayed
+  some_text v E.OriginCut q = ends.relayed false false q.queues.sent q.relayed
+  some_text v E.OriginBad q = ends.relayed false false q.queues.sent q.relayed
   some_text v E.OriginFault q = ends.relayed q.done false q.sent q.relayed
   some_text v E.ClientFault q = absurd q
   some_text v E.NoMemory q = absurd q
@@ -33,7 +33,7 @@ module _ (setup : Setup) (refuses : Type 0) where
 
   -- ---- a write of what was queued
 
-  relayed_side : (t : Bool) (v : View) (s : LinkSide) (p : Pushed) (done fin : Bool) (sent : List ℕ)
+  abbrev relayed_side : (t : Bool) (v : View) (s : LinkSide) (p : Pushed) (done fin : Bool) (sent : List ℕ)
       → t ≡ true → SideWrites t v.client s p
       → all_of s.look ≡ all_of v.client.look → Relayed setup refuses v done fin sent
       → Relayed setup refuses (record v { client = s }) done fin sent
@@ -54,7 +54,7 @@ module _ (setup : Setup) (refuses : Type 0) where
     whole = h.whole;
   }
 
-  block_side : (t : Bool) (v : View) (s : LinkSide) (p : Pushed) (end : TxnEnd) (fin : Bool) → t ≡ true
+  abbrev block_side : (t : Bool) (v : View) (s : LinkSide) (p : Pushed) (end : TxnEnd) (fin : Bool) → t ≡ true
       → SideWrites t v.client s p
       → all_of s.look ≡ all_of v.client.look → QueuesBlock setup refuses v end fin → QueuesBlock setup refuses
       (record v { client = s }) end fin
@@ -67,17 +67,35 @@ module _ (setup : Setup) (refuses : Type 0) where
     mode = h.mode;
     sent = h.sent;
     text = text_written t v.client s p v.sent h.block.head h.sent fin told writes h.text;
-    whole = h.whole;
-    relayed = relayed_side t v s p fin fin h.sent told writes all h.relayed;
+  }
+
+  short_side : (t : Bool) (v : View) (s : LinkSide) (p : Pushed) (end : TxnEnd) → t ≡ true
+      → SideWrites t v.client s p → all_of s.look ≡ all_of v.client.look → QueuesShort setup refuses v end
+      → QueuesShort setup refuses (record v { client = s }) end
+  short_side t v s p end told writes all h = record {
+    queues = block_side t v s p end false told writes all h.queues;
+    relayed = relayed_side t v s p false false h.queues.sent told writes all h.relayed;
+    soon = record {
+      rest = h.soon.rest;
+      reads = h.soon.reads;
+      body = h.soon.body;
+      stops = h.soon.stops;
+      so = h.soon.so;
+    };
   }
 
   queues_side : (t : Bool) (v : View) (s : LinkSide) (p : Pushed) (end : TxnEnd) → t ≡ true
       → SideWrites t v.client s p
       → all_of s.look ≡ all_of v.client.look → QueuesFor setup refuses v end → QueuesFor setup refuses
       (record v { client = s }) end
-  queues_side t v s p E.Whole told writes all q = block_side t v s p E.Whole true told writes all q
-  queues_side t v s p E.OriginCut told writes all q = block_side t v s p E.OriginCut false told writes all q
-  queues_side t v s p E.OriginBad told writes all q = block_side t v s p E.OriginBad false told writes all q
+  queues_side t v s p E.Whole told writes all q = record {
+    queues = block_side t v s p E.Whole true told writes all q.queues;
+    whole = q.whole;
+    done = q.done;
+    relayed = relayed_side t v s p q.done true q.queues.sent told writes all q.relayed;
+  }
+  queues_side t v s p E.OriginCut told writes all q = short_side t v s p E.OriginCut told writes all q
+  queues_side t v s p E.OriginBad told writes all q = short_side t v s p E.OriginBad told writes all q
   queues_side t v s p E.OriginFault told writes all q =
       record {
         failed = q.failed;
@@ -111,27 +129,36 @@ module _ (setup : Setup) (refuses : Type 0) where
 
   -- ---- all of it was written
 
+  has_block : (v : View) (end : TxnEnd) (fin : Bool) → v.client.outbox ≡ []
+      → (q : QueuesBlock setup refuses v end fin) → HasBlock setup refuses v end q.block
+  has_block v end fin none q = record {
+    is_block = q.is_block;
+    ends = q.ends;
+    took = q.took;
+    no_waits = none;
+    mode = q.mode;
+  }
+
+  short_end : (v : View) (end : TxnEnd) → v.client.outbox ≡ [] → QueuesShort setup refuses v end
+      → ShortEnd setup refuses v end
+  short_end v end none q = record {
+    block = q.queues.block;
+    has = has_block v end false none q.queues;
+    sent = q.queues.sent;
+    text = q.queues.text;
+    relayed = q.relayed;
+    soon = q.soon;
+  }
+
   ends_by : (v : View) (end : TxnEnd) → v.client.outbox ≡ [] → QueuesFor setup refuses v end
       → EndsBy setup refuses v end
   ends_by v E.Whole none q = record {
-    block = q.block;
-    has = record { is_block = q.is_block; ends = q.ends; took = q.took; no_waits = none; mode = q.mode };
-    text = subst (λ (b : List ℕ). HasText v.client v.sent q.block.head b true) (q.whole refl) q.text;
+    block = q.queues.block;
+    has = has_block v E.Whole true none q.queues;
+    text = subst (λ (b : List ℕ). HasText v.client v.sent q.queues.block.head b true) q.whole q.queues.text;
   }
-  ends_by v E.OriginCut none q = record {
-    block = q.block;
-    has = record { is_block = q.is_block; ends = q.ends; took = q.took; no_waits = none; mode = q.mode };
-    sent = q.sent;
-    text = q.text;
-    relayed = q.relayed;
-  }
-  ends_by v E.OriginBad none q = record {
-    block = q.block;
-    has = record { is_block = q.is_block; ends = q.ends; took = q.took; no_waits = none; mode = q.mode };
-    sent = q.sent;
-    text = q.text;
-    relayed = q.relayed;
-  }
+  ends_by v E.OriginCut none q = short_end v E.OriginCut none q
+  ends_by v E.OriginBad none q = short_end v E.OriginBad none q
   ends_by v E.OriginFault none q = record {
     failed = q.failed;
     no_waits = none;

@@ -3,6 +3,7 @@ pub mod BodyLinks
 pub mod BodyTimes
 pub mod Chaining
 pub mod Duty
+pub mod Early
 pub mod Entered
 pub mod Fed
 pub mod Finished

@@ -1,14 +1,15 @@
 -- The step with which a body begins to be passed on lowers what a transaction has left to do.
-use Rattle.std.proofs.Common.{◌≡◌, ℕ, ◌+◌, ◌*◌, ◌<◌, ◌≤◌, List, [], ◌∷◌, length, map, filter, Bool, true}
-use Rattle.std.proofs.Common.{false, cond, arith, refl, sym, ap, subst, ◌∙◌, length-append}
-use Rattle.std.proofs.Math.Nat.{le_of_eq, le_trans}
-use Rattle.std.specs.Prelude.{Option, Some, None, ⊤, if◌then◌else◌}
+use Rattle.std.proofs.Common.{◌≡◌, ℕ, ◌+◌, ◌*◌, ◌≤◌, List, [], ◌∷◌, length, map, filter, Bool, true, false}
+use Rattle.std.proofs.Common.{cond, arith, refl, sym, ap, subst, ◌∙◌, length-append}
+use Rattle.std.proofs.Math.Nat.{le_trans}
+use Rattle.std.specs.Prelude.{◌||◌, Option, Some, None, is_some, ⊤, if◌then◌else◌}
 use Rattle.std.proofs.lemmas.List.{length-map}
 use Rattle.ts_config.specs.declared.setup.Setup.{Setup}
 use Rattle.ts_config.specs.declared.setup.TransformLine.{TransformLine}
+use Rattle.ts_group.specs.Answers.{Falls}
 use Rattle.ts_group.specs.Context.{Context}
-use Rattle.ts_link.specs.Link.{AgainsFall, Fewer, NoMore}
-use Rattle.ts_transform.specs.Driving.{errors_to_pass, may_pass_error}
+use Rattle.ts_link.specs.Link.{AgainsFall, NoMore}
+use Rattle.ts_transform.specs.Driving.{calls_of, upstream_calls}
 use Rattle.ts_transform.specs.declared.continuation.StageContinuation.{StageContinuation}
 use Rattle.ts_transform.specs.Flow.{ChainState, fresh_stage, left_to_do, passing}
 use Rattle.ts_transform.specs.Stage.{to_end}
@@ -28,24 +29,25 @@ use Rattle.ts_block.specs.Heads.{HasResponse}
 use Rattle.ts_phases.specs.View.{LinkSide, View}
 use Rattle.ts_phases.specs.RelayMoves.{QueuesHead}
 use Rattle.ts_transform.specs.declared.transform.Transform as transform
-use Rattle.ts_relay.specs.Inserted.{AllAddNoMore, AreOfLines, IsOfParts}
+use Rattle.ts_relay.specs.Inserted.{AllChangeNoMore, AreOfLines, IsOfParts}
 use Rattle.ts_phases.specs.Lowering.{agains_left, chain_room, end_room, enter_left, enter_work, head_room}
 use Rattle.ts_phases.specs.Lowering.{if_told, lines_length, own_room, passes, pump_weight, to_hear}
 use Rattle.ts_wire.specs.Limits.{head_limit}
 use Rattle.ts_relay.specs.BodyLinks.{HoldsLittle}
 use Rattle.ts_relay.specs.Duties.{SettledAs}
-use Rattle.ts_relay.specs.Entering.{BeginsRelay, GetsStart}
+use Rattle.ts_relay.specs.Entering.{BeginsRelay, GetsStart, IsUnbegun}
 use Rattle.ts_phases.specs.Facts.{Relays}
 use Rattle.ts_relay.specs.Feeding.{OnGoes}
 use Rattle.ts_phases.specs.Holding.{IfTold}
 use Rattle.ts_relay.specs.LoweringBody.{BeginsLower, HasChainRoom, LowersEntering, body_left, body_work}
-use Rattle.ts_relay.specs.LoweringBody.{errors_left, unbegun_left}
+use Rattle.ts_relay.specs.LoweringBody.{begin_room, calls_before, calls_left, has_come, unbegun_left}
 use Rattle.ts_relay.specs.declared.last_writes.BodyStep.{BodyStep}
 use Rattle.ts_relay.specs.declared.last_writes.BodyStep.TheVariants as S
 use Rattle.ts_phases.specs.declared.phase.Request.{Request}
 use Rattle.ts_relay.specs.declared.relay.Relay.{Relay}
-use Rattle.ts_relay.proofs.InsertedStages.{fresh_adds, fresh_work}
-use Rattle.ts_phases.proofs.Lowering.{no_more_same, none_fall, none_left, one_if, passes_less, told_fewer}
+use Rattle.ts_relay.specs.declared.relay.Short.{Short}
+use Rattle.ts_relay.proofs.InsertedStages.{fresh_changes, fresh_work}
+use Rattle.ts_phases.proofs.Lowering.{no_more_same, none_fall, passes_less}
 use Rattle.ts_relay.proofs.LoweringRelay.{same_lines}
 use Rattle.ts_phases.proofs.LoweringResponse.{response_fits}
 
@@ -71,8 +73,8 @@ filter_less : (p : TransformLine → Bool) (ls : List TransformLine) → IsLess 
 filter_less p [] = record { text = omega arith; passed = λ n. omega arith }
 filter_less p (l ∷ ls) = kept_less (p l) l ls (filter p ls) (filter_less p ls)
 
-two_more : (a b : ℕ) → a ≤ b → a + 2 ≤ b + 2
-two_more a b less = omega (arith, less)
+three_more : (a b : ℕ) → a ≤ b → a + 3 ≤ b + 3
+three_more a b less = omega (arith, less)
 
 no_bytes : (n : ℕ) → length {A = ℕ} [] + n ≤ n
 no_bytes n = omega arith
@@ -82,41 +84,48 @@ module _ {P : Type 0} (setup : Setup) (stage : transform.Ghosts P TransformLine)
     (ps : List P) (c : ChainState P) where
   less_has_room : IsLess setup.transforms.items ms → length ms ≤ length setup.transforms.items
       → AreOfLines stage ms ps
-      → c ≡ record { first = []; stages = map fresh_stage ps; given = false } → HasChainRoom setup stage.rest
+      → c ≡ record { first = []; stages = map (fresh_stage stage.soon stage.pause) ps; given = false }
+      → HasChainRoom setup stage.rest
       c
   less_has_room less few of made =
       let ls = setup.transforms.items in
-      let stages : c.stages ≡ map fresh_stage ps = ap (λ (d : ChainState P). d.stages) made in
-      let len : length c.stages ≡ length ps = ap length stages ∙ length-map ps fresh_stage in
-      let left : left_to_do stage.rest c [] ≡ passing stage.rest (map fresh_stage ps) [] =
+      let stages : c.stages ≡ map (fresh_stage stage.soon stage.pause) ps = ap (λ (d : ChainState P).
+      d.stages) made in
+      let len : length c.stages ≡ length ps = ap length stages ∙ length-map ps (fresh_stage stage.soon
+      stage.pause) in
+      let left : left_to_do stage.rest c [] ≡ passing stage.rest (map (fresh_stage stage.soon stage.pause) ps)
+      [] =
       ap (λ (d : ChainState P). left_to_do stage.rest d []) made in
-      let room : passing stage.rest (map fresh_stage ps) [] + length ps ≤ passes ls (lines_length ls + 2) =
+      let room : passing stage.rest (map (fresh_stage stage.soon stage.pause) ps) [] + 2 * length ps ≤ passes
+      ls
+      (lines_length ls + 3) =
       le_trans (fresh_work stage ms ps of [] (lines_length ms) (no_bytes (lines_length ms)))
-      (le_trans (less.passed (lines_length ms + 2))
-      (passes_less ls (lines_length ms + 2) (lines_length ls + 2) (two_more (lines_length ms)
+      (le_trans (less.passed (lines_length ms + 3))
+      (passes_less ls (lines_length ms + 3) (lines_length ls + 3) (three_more (lines_length ms)
       (lines_length ls) less.text))) in
       record {
         lines = record {
           few = few_stages (length c.stages) (length ps) (length ms) (length ls) len (same_count ms ps of)
               few;
-          adds = subst (λ (ss : List (Stage P)). AllAddNoMore stage.rest ss) (sym stages) (fresh_adds stage ms
-              ps of);
+          changes = subst (λ (ss : List (Stage P)). AllChangeNoMore stage.rest ss) (sym stages)
+              (fresh_changes stage ms ps of);
         };
-        room = room_sum (left_to_do stage.rest c []) (passing stage.rest (map fresh_stage ps) [])
-            (length c.stages) (length ps) (passes ls (lines_length ls + 2)) left len room;
+        room = room_sum (left_to_do stage.rest c []) (passing stage.rest (map (fresh_stage stage.soon
+            stage.pause) ps) [])
+            (length c.stages) (length ps) (passes ls (lines_length ls + 3)) left len room;
       }
     where
       same_count : (ls : List TransformLine) (ps : List P) → AreOfLines stage ls ps → length ps ≡ length ls
       same_count [] [] of = refl
       same_count [] (p ∷ ps) of = absurd of
       same_count (l ∷ ls) [] of = absurd of
-      same_count (l ∷ ls) (p ∷ ps) of = omega (arith, same_count ls ps of.2)
+      same_count (l ∷ ls) (p ∷ ps) of = omega (arith, same_count ls ps of.3)
 
       few_stages : (stages parts less all : ℕ) → stages ≡ parts → parts ≡ less → less ≤ all → stages ≤ all
       few_stages stages parts less all len same few = omega (arith, len, same, few)
 
-      room_sum : (left passed stages parts room : ℕ) → left ≡ passed → stages ≡ parts → passed + parts ≤ room
-          → left + stages ≤ room
+      room_sum : (left passed stages parts room : ℕ) → left ≡ passed → stages ≡ parts
+          → passed + 2 * parts ≤ room → left + 2 * stages ≤ room
       room_sum left passed stages parts room same len fits = omega (arith, same, len, fits)
 
 -- no lines at all are less than any
@@ -140,7 +149,8 @@ filter_few p (l ∷ ls) = kept_few (p l) (filter p ls) (filter_few p ls)
 fresh_has_room : {P : Type 0} (setup : Setup) (stage : transform.Ghosts P TransformLine) (framing : Framing)
     (p : TransformLine → Bool) (ps : List P) (c : ChainState P)
     → AreOfLines stage (if_body framing (filter p setup.transforms.items)) ps
-    → c ≡ record { first = []; stages = map fresh_stage ps; given = false } → HasChainRoom setup stage.rest c
+    → c ≡ record { first = []; stages = map (fresh_stage stage.soon stage.pause) ps; given = false }
+    → HasChainRoom setup stage.rest c
 fresh_has_room setup stage F.Nothing p ps c of made = less_has_room setup stage [] ps c
     (none_less setup.transforms.items) (no_lines (length setup.transforms.items)) of made
   where
@@ -164,21 +174,29 @@ end_within true = omega arith
 end_within false = omega arith
 
 -- the sum of the step
-enter_next : (i x x' out out' text own head chain work errors hear hear' given : ℕ) → x' + i ≤ x
-    → out' ≡ out + text → text ≤ head → work + errors ≤ chain → hear' ≡ hear → given ≤ 1
-    → end_room + (x' + out') + hear' + pump_weight * (work + errors) + given < 6
+enter_next : (i x x' out out' text own head chain work calls hear hear' given : ℕ) → x' + i ≤ x
+    → out' ≡ out + text → text ≤ head → work + calls ≤ chain → hear' ≡ hear → given ≤ 1
+    → end_room + (x' + out') + hear' + pump_weight * (work + calls) + given + begin_room ≤ 6
     + (x + out + (own + (head + end_room) + pump_weight * chain) + hear)
-enter_next i x x' out out' text own head chain work errors hear hear' given again len fits room heard few =
+enter_next i x x' out out' text own head chain work calls hear hear' given again len fits room heard few =
     omega (arith, again, len, fits, room, heard, few)
 
+-- numbers that are told fall so, where their sums do
+told_falls : (m m' : Option ℕ) (f g : ℕ → ℕ) (by : ℕ) → AgainsFall false m m'
+    → ((x x' : ℕ) → x' + 0 ≤ x → g x' + by ≤ f x)
+    → Falls (if_told m (Some 0) (λ x y. f x)) by (if_told m' (Some 0) (λ x y. g x))
+told_falls None m' f g by again falls = tt
+told_falls (Some x) None f g by again falls = absurd again
+told_falls (Some x) (Some x') f g by again falls = falls x x' (omega (arith, again))
+
 -- The head of the response is queued, and the chain has no more to do than its room.
-pub enters : {B : Type 0} (setup : Setup) (rest : B → List ℕ → List ℕ) (errors : ℕ) (v w : View)
-    (q : Request) (h : ResponseHead) (mode : Mode) (c : ChainState B) (bytes behind : List ℕ)
+pub enters : {B : Type 0} (setup : Setup) (rest : B → List ℕ → List ℕ) (calls : ℕ) (v w : View)
+    (q : Request) (h : ResponseHead) (mode : Mode) (c : ChainState B) (come : Bool) (bytes behind : List ℕ)
     → HasResponse bytes h behind
     → QueuesHead (relayed_head setup q.head h) mode v w
-    → left_to_do rest c [] + errors ≤ chain_room setup → Fewer (enter_left setup v)
-    (body_left setup rest errors w c)
-enters setup rest errors v w q h mode c bytes behind reads queues room =
+    → left_to_do rest c [] + calls ≤ chain_room setup → Falls (enter_left setup v) begin_room
+    (body_left setup rest calls w c come)
+enters setup rest calls v w q h mode c come bytes behind reads queues room =
     let text = relayed_head setup q.head h in
     let len : length w.client.outbox ≡ length v.client.outbox + length text = ap (λ (s : LinkSide). length
     s.outbox) queues.client ∙ length-append v.client.outbox text in
@@ -187,13 +205,13 @@ enters setup rest errors v w q h mode c bytes behind reads queues room =
     (sym queues.origin)
     (subst (λ (s : LinkSide). AgainsFall false (agains_left v) (both s.look.agains v.origin.look.agains))
     (sym queues.client) (none_fall (agains_left v))) in
-    told_fewer (λ x y. enter_work setup x y v) (λ x y. body_work setup rest errors x w c) false 0
-    (agains_left v) (agains_left w) (Some 0) (Some 0) again (none_left (Some 0) 0)
-    (λ x x' y y' falls upload. enter_next (one_if false) x x' (length v.client.outbox)
+    told_falls (agains_left v) (agains_left w) (λ x. enter_work setup x 0 v)
+    (λ x. body_work setup rest calls x w c come) begin_room again
+    (λ x x' falls. enter_next 0 x x' (length v.client.outbox)
     (length w.client.outbox) (length text) (own_room setup) (head_room setup) (chain_room setup)
-    (left_to_do rest c []) errors (to_hear setup v.origin) (to_hear setup w.origin) (to_end c.given) falls len
+    (left_to_do rest c []) calls (to_hear setup v.origin) (to_hear setup w.origin) (to_end come) falls len
     (response_fits setup bytes behind q.head h reads) room (ap (to_hear setup) queues.origin)
-    (end_within c.given))
+    (end_within come))
 
 -- little is held where a body begins: no more than a head is long, and nothing in the chain
 entered_little : {B : Type 0} (v w : View) (c : ChainState B) → w.origin ≡ v.origin → c.first ≡ []
@@ -214,38 +232,42 @@ queues_lower ct ot setup refuses rest v w q h text mode r relays none room is qu
   little = λ told also. entered_little v w r.driven.chain queues.origin none (relays told also).held;
   falls = λ told also.
       let reads = (relays told also).reads in
-      enters setup rest (length r.driven.chain.stages) v w q h mode r.driven.chain reads.from
+      enters setup rest (calls_before r.driven.chain) v w q h mode r.driven.chain (has_come r) reads.from
       v.origin.inbox reads.reads
       (subst (λ (xs : List ℕ). QueuesHead xs mode v w) (is told also) queues) room.room;
 }
 
 -- ---- the stages begin
 
-errors_within : (ts : List (Option StageContinuation)) → errors_to_pass ts ≤ length ts
-errors_within [] = omega arith
-errors_within (t ∷ ts) = let here = one_at_most (may_pass_error t) (errors_to_pass ts) (length ts)
-    (errors_within ts) in omega (arith, here)
+calls_within : (ts : List (Option StageContinuation)) → upstream_calls ts ≤ 2 * length ts
+calls_within [] = omega arith
+calls_within (t ∷ ts) = let few : calls_of t ≤ 2 = two_at_most t in omega (arith, few, calls_within ts)
   where
-    one_at_most : (b : Bool) (e n : ℕ) → e ≤ n → (if b then 1 else 0) + e ≤ n + 1
-    one_at_most true e n less = omega (arith, less)
-    one_at_most false e n less = omega (arith, less)
+    by_error : (b : Bool) → (if b then 1 else 2) ≤ 2
+    by_error true = omega arith
+    by_error false = omega arith
 
--- errors count while the chain runs
+    two_at_most : (t : Option StageContinuation) → calls_of t ≤ 2
+    two_at_most None = omega arith
+    two_at_most (Some t) = by_error t.passed_error
+
+-- calls count while the chain runs
 counted_within : (b : Bool) (e n : ℕ) → (b ≡ true → e ≤ n) → (if b then e else 0) ≤ n
 counted_within true e n less = less refl
 counted_within false e n less = omega arith
 
-no_more_errors : {B : Type 0} (setup : Setup) (rest : B → List ℕ → List ℕ) (n n' : ℕ) (v : View)
-    (c d : ChainState B) → left_to_do rest d [] ≡ left_to_do rest c [] → n' ≤ n → to_end d.given ≤ to_end
-    c.given
-    → NoMore (body_left setup rest n v c) (body_left setup rest n' v d)
-no_more_errors setup rest n n' v c d same fewer ends = by_told (agains_left v)
+no_more_calls : {B : Type 0} (setup : Setup) (rest : B → List ℕ → List ℕ) (n n' : ℕ) (v : View)
+    (c d : ChainState B) (come now : Bool) → left_to_do rest d [] ≡ left_to_do rest c [] → n' ≤ n
+    → to_end now ≤ to_end come
+    → NoMore (body_left setup rest n v c come) (body_left setup rest n' v d now)
+no_more_calls setup rest n n' v c d come now same fewer ends = by_told (agains_left v)
   where
-    by_told : (t : Option ℕ) → NoMore (if_told t (Some 0) (λ again upload. body_work setup rest n again v c))
-        (if_told t (Some 0) (λ again upload. body_work setup rest n' again v d))
+    by_told : (t : Option ℕ)
+        → NoMore (if_told t (Some 0) (λ again upload. body_work setup rest n again v c come))
+        (if_told t (Some 0) (λ again upload. body_work setup rest n' again v d now))
     by_told None = tt
     by_told (Some x) = less (end_room + (x + length v.client.outbox) + to_hear setup v.origin)
-        (left_to_do rest c []) (left_to_do rest d []) (to_end c.given) (to_end d.given) same fewer ends
+        (left_to_do rest c []) (left_to_do rest d []) (to_end come) (to_end now) same fewer ends
       where
         less : (a l l' g g' : ℕ) → l' ≡ l → n' ≤ n → g' ≤ g → a + pump_weight * (l' + n') + g' ≤ a
             + pump_weight * (l + n) + g
@@ -266,55 +288,58 @@ module _ {B : Type 0} (setup : Setup) (rest : B → List ℕ → List ℕ) (v : 
     lines = tt;
     first = tt;
     falls = ended_no_more (unbegun_left setup rest v r) (agains_left v) (Some 0) (λ x y. body_work setup rest
-        (length r.driven.chain.stages) x v r.driven.chain) (no_more_same (unbegun_left setup rest v r));
+        (calls_before r.driven.chain) x v r.driven.chain (has_come r)) (no_more_same (unbegun_left setup rest
+        v r));
   }
 
   -- what the chain gets at its start gives it no more to do
   started : (state : BodyState) (c d : ChainState B) → GetsStart state c d
-      → (d.stages ≡ c.stages) × (left_to_do rest d [] ≡ left_to_do rest c []) × (to_end d.given ≤ to_end
-      c.given)
+      → (d.stages ≡ c.stages) × (left_to_do rest d [] ≡ left_to_do rest c [])
   started state.Unfinished c d gets = (
     ap (λ (x : ChainState B). x.stages) gets,
     ap (λ (x : ChainState B). left_to_do rest x []) gets,
-    le_of_eq (ap (λ (x : ChainState B). to_end x.given) gets),
   )
   started state.Ended c d gets = (
     ap (λ (x : ChainState B). x.stages) gets,
     ap (λ (x : ChainState B). left_to_do rest x []) gets,
-    given_end (to_end d.given) (to_end c.given) (ap (λ (x : ChainState B). to_end x.given) gets),
   )
-    where
-      given_end : (m n : ℕ) → m ≡ 0 → m ≤ n
-      given_end m n none = omega (arith, none)
   started state.Bad c d gets = absurd gets
 
   started_first : (state : BodyState) (c d : ChainState B) → GetsStart state c d → d.first ≡ c.first
   started_first state.Bad c d gets = absurd gets
   started_first _ c d gets = ap (λ (x : ChainState B). x.first) gets
 
-  pub begins_lower : (step : BodyStep) (state : BodyState) (r s : Relay B) (a b : Context)
-      → OnGoes step (GetsStart state r.driven.chain s.driven.chain) → BeginsRelay step s a b
+  -- nothing had come before it began
+  begun_come : (r : Relay B) (now : Bool) → IsUnbegun r → to_end now ≤ to_end (has_come r)
+  begun_come r now fresh =
+      let none : has_come r ≡ false = ap (λ g. g || is_some r.short) fresh.going
+      ∙ ap (λ (x : Option Short). false || is_some x) fresh.goes_on in
+      omega (arith, end_within now, ap to_end none)
+
+  pub begins_lower : {stages : ℕ} (step : BodyStep) (state : BodyState) (r s : Relay B) (a b : Context)
+      → IsUnbegun r
+      → OnGoes step (GetsStart state r.driven.chain s.driven.chain) → BeginsRelay step stages s a b
       → BeginsLower setup rest step v r s
-  begins_lower S.Goes state r s a b gets begins =
+  begins_lower S.Goes state r s a b fresh gets begins =
       let is = started state r.driven.chain s.driven.chain gets in
       record {
         lines = same_lines setup rest r.driven.chain s.driven.chain is.0;
         first = started_first state r.driven.chain s.driven.chain gets;
-        falls = no_more_errors setup rest (length r.driven.chain.stages) (errors_left s.driven) v
-            r.driven.chain s.driven.chain is.1
-            (counted_within s.driven.running (errors_to_pass s.driven.table.items)
-            (length r.driven.chain.stages) (λ runs.
-            few_errors (errors_to_pass s.driven.table.items) (length s.driven.table.items)
-            (length s.driven.chain.stages) (length r.driven.chain.stages) (errors_within s.driven.table.items)
-            (begins.chain.driven runs).len (ap length is.0))) is.2;
+        falls = no_more_calls setup rest (calls_before r.driven.chain) (calls_left s.driven) v
+            r.driven.chain s.driven.chain (has_come r) (has_come s) is.1
+            (counted_within s.driven.running (upstream_calls s.driven.table.items)
+            (calls_before r.driven.chain) (λ runs.
+            few_calls (upstream_calls s.driven.table.items) (length s.driven.table.items)
+            (length s.driven.chain.stages) (length r.driven.chain.stages) (calls_within s.driven.table.items)
+            (begins.chain.driven runs).len (ap length is.0))) (begun_come r (has_come s) fresh);
       }
     where
-      few_errors : (e t d c : ℕ) → e ≤ t → t ≡ d → d ≡ c → e ≤ c
-      few_errors e t d c within len same = omega (arith, within, len, same)
-  begins_lower S.Waits state r s a b gets begins = absurd gets
-  begins_lower (S.Finishes end) state r s a b gets begins = absurd gets
-  begins_lower (S.Closes end) state r s a b gets begins = absurd gets
-  begins_lower S.Lacks state r s a b gets begins = lacks_begun r s
+      few_calls : (e t d c : ℕ) → e ≤ 2 * t → t ≡ d → d ≡ c → e ≤ 2 * c
+      few_calls e t d c within len same = omega (arith, within, len, same)
+  begins_lower S.Waits state r s a b fresh gets begins = absurd gets
+  begins_lower (S.Finishes end) state r s a b fresh gets begins = absurd gets
+  begins_lower (S.Closes end) state r s a b fresh gets begins = absurd gets
+  begins_lower S.Lacks state r s a b fresh gets begins = lacks_begun r s
 
   -- both ends are roused that must work
   pub begins_settled : (step result : BodyStep) (r m s : Relay B) → BeginsLower setup rest step v r m
@@ -329,7 +354,8 @@ module _ {B : Type 0} (setup : Setup) (rest : B → List ℕ → List ℕ) (v : 
   begins_settled _ result r m s lower on settled is = absurd on
 
   -- a body that began goes on, or memory lacked
-  pub begun_goes : (step : BodyStep) (s : Relay B) (a b : Context) → BeginsRelay step s a b → OnGoes step ⊤
+  pub begun_goes : {stages : ℕ} (step : BodyStep) (s : Relay B) (a b : Context)
+      → BeginsRelay step stages s a b → OnGoes step ⊤
   begun_goes S.Goes s a b begins = tt
   begun_goes S.Lacks s a b begins = tt
   begun_goes _ s a b begins = begins.chain.runs

@@ -1,8 +1,8 @@
 -- An event that is handled while a body is passed on: what was done pays for each event that was set.
-use Rattle.std.proofs.Common.{◌≡◌, ◌⊎◌, inl, inr, ℕ, ◌+◌, ◌*◌, ◌≤◌, List, [], length, Bool, true, false}
+use Rattle.std.proofs.Common.{◌≡◌, ◌⊎◌, inl, inr, ℕ, ◌+◌, ◌*◌, ◌≤◌, List, [], length, Bool, true, false, ◌||◌}
 use Rattle.std.proofs.Common.{Result, arith, refl, sym, ap, subst, ◌∙◌}
 use Rattle.std.proofs.Math.Nat.{add-le-add, le_of_eq, le_refl}
-use Rattle.std.specs.Prelude.{Option, Some, ⊤, if◌then◌else◌}
+use Rattle.std.specs.Prelude.{Option, Some, is_some, ⊤, if◌then◌else◌}
 use Rattle.std.proofs.lemmas.Bool.{false≢true}
 use Rattle.ts_config.specs.declared.setup.Setup.{Setup}
 use Rattle.ts_journal.specs.declared.entry.TheConstants.{GREATEST}
@@ -15,18 +15,18 @@ use Rattle.ts_link.specs.Link.{Fewer}
 use Rattle.ts_transform.specs.Acting.{IsStage, StillGives}
 use Rattle.ts_transform.specs.Driven.{Acts, IsOfNoStage, Loses}
 use Rattle.ts_transform.specs.declared.driven.DrivenChain.{DrivenChain}
-use Rattle.ts_transform.specs.Driving.{ActsWithin, IsRousedIf, SetsFew, errors_to_pass, unroused}
-use Rattle.ts_transform.specs.Flow.{ChainState, MustRead, left_to_do}
+use Rattle.ts_transform.specs.Driving.{ActsWithin, IsRousedIf, SetsFew, upstream_calls, unroused}
+use Rattle.ts_transform.specs.Flow.{ChainState, left_to_do}
 use Rattle.ts_transform.specs.Stage.{to_end}
 use Rattle.ts_transform.specs.declared.continuation.StageContinuation.{StageContinuation}
-use Rattle.ts_relay.specs.Duties.{set_leaving, AreBodyEndsRoused, IsBodyCovered, MustSend, SettledAs}
-use Rattle.ts_relay.specs.Duties.{SettlesAfter}
+use Rattle.ts_relay.specs.Duties.{set_leaving, AreBodyEndsRoused, IsBodyCovered, MustReadOn, MustSend}
+use Rattle.ts_relay.specs.Duties.{SettledAs, SettlesAfter}
 use Rattle.ts_relay.specs.Feeding.{OnGoes}
 use Rattle.ts_relay.specs.Relaying.{StepsChain, step_after}
 use Rattle.ts_relay.specs.declared.relay.TheConstants.{FIRST}
 use Rattle.ts_phases.specs.Lowering.{agains_left, end_room, events_paid, number_left, pump_weight, to_hear}
 use Rattle.ts_relay.specs.LoweringBody.{HasNothingDue, IsOfLines, LowersBody, PaysBody, StaysOfLines}
-use Rattle.ts_relay.specs.LoweringBody.{body_work, ended_left, errors_left, left_after, relay_left}
+use Rattle.ts_relay.specs.LoweringBody.{body_work, calls_left, ended_left, has_come, left_after, relay_left}
 use Rattle.ts_phases.specs.View.{View}
 use Rattle.ts_relay.specs.declared.last_writes.BodyStep.{BodyStep}
 use Rattle.ts_relay.specs.declared.last_writes.BodyStep.TheVariants as S
@@ -35,8 +35,8 @@ use Rattle.ts_transform.proofs.Along.{stage_at}
 use Rattle.ts_relay.proofs.LoweringBody.{to_ended}
 use Rattle.ts_relay.proofs.LoweringEvents.{paid_fewer, paid_none, paid_sum, spent_none}
 use Rattle.ts_phases.proofs.Lowering.{no_more_same}
-use Rattle.ts_relay.proofs.LoweringRelay.{ended_if, errors_fewer, loses_runs}
-use Rattle.ts_relay.proofs.LoweringStages.{StageDid, WorksOrStays, errors_fall, handled_lines, once_works}
+use Rattle.ts_relay.proofs.LoweringRelay.{ended_if, calls_fewer, loses_runs}
+use Rattle.ts_relay.proofs.LoweringStages.{StageDid, WorksOrStays, calls_fall, handled_lines, once_works}
 use Rattle.ts_relay.proofs.LoweringStages.{stage_did}
 use Rattle.ts_phases.proofs.LoweringSteps.{stays_calm}
 use Rattle.ts_relay.proofs.Settling.{goes_after, on_then, settled_has, settled_while, while_on, while_then}
@@ -69,7 +69,7 @@ module _ {P : Type 0} (setup : Setup) (rest : P → List ℕ → List ℕ) where
   ended_less : (m : Option ℕ) (w : View) (r : Relay P) → Fewer m (relay_left setup rest w r)
       → Fewer m (ended_left w)
   ended_less m w r fell = ended_if m (agains_left w) (Some 0) (λ x y. body_work setup rest
-      (errors_left r.driven) x w r.driven.chain) fell
+      (calls_left r.driven) x w r.driven.chain (has_come r)) fell
 
   settled_less : (step result : BodyStep) → SettledAs step result → (m : Option ℕ) (w : View) (r : Relay P)
       → Fewer m (left_after setup rest step w r) → Fewer m (left_after setup rest result w r)
@@ -85,7 +85,8 @@ module _ {P : Type 0} (setup : Setup) (rest : P → List ℕ → List ℕ) where
       v r) (relay_left setup rest v r) (no_more_same (relay_left setup rest v r)) none
   stays_paid S.Lacks on v r a b none = paid_fewer a.log.state.pending b.log.state.pending (relay_left setup
       rest v r) (ended_left v) 1
-      (to_ended setup rest (errors_left r.driven) false v v r.driven.chain (stays_calm setup v v refl))
+      (to_ended setup rest (calls_left r.driven) false v v r.driven.chain (has_come r) (stays_calm setup v v
+      refl))
       (none_and_one (length a.log.state.pending) (length b.log.state.pending) 1 none (omega arith))
   stays_paid _ on v r a b none = absurd on
 
@@ -185,7 +186,7 @@ module _ {P : Type 0} (ct ot : Bool) (setup : Setup) (rest : P → List ℕ → 
   stage_pays : OnGoes step ⊤ → StaysOfLines setup rest r m → m ≡ record r { driven = m.driven }
       → m.driven.chain.given ≡ r.driven.chain.given
       → left_to_do rest m.driven.chain [] ≤ left_to_do rest r.driven.chain []
-      → errors_to_pass m.driven.table.items ≤ errors_to_pass r.driven.table.items
+      → upstream_calls m.driven.table.items ≤ upstream_calls r.driven.table.items
       → (m.driven.running ≡ true → r.driven.running ≡ true)
       → StageDid rest r.driven.chain m.driven.chain r.driven.table.items m.driven.table.items a c
       → ActsWithin 4 a c
@@ -201,11 +202,30 @@ module _ {P : Type 0} (ct ot : Bool) (setup : Setup) (rest : P → List ℕ → 
         result settles.settled (by_step step on covered did));
   }
     where
+      come : has_come m ≡ has_come r
+      come = ap (λ (x : Relay P). m.driven.chain.given || is_some x.short) was
+          ∙ ap (λ g. g || is_some r.short) given
+
+      -- what the ends must do depends on the chain, and on whether more of the body comes
+      still_send : m.driven.chain ≡ r.driven.chain → MustSend v m → MustSend v r
+      still_send same must = subst (λ (c : ChainState P). MustSend v (record r {
+        driven = record m.driven {
+          chain = c;
+        };
+      })) same (subst (λ (x : Relay P). MustSend v x) was must)
+
+      still_read : m.driven.chain ≡ r.driven.chain → MustReadOn m → MustReadOn r
+      still_read same must = subst (λ (c : ChainState P). MustReadOn (record r {
+        driven = record m.driven {
+          chain = c;
+        };
+      })) same (subst (λ (x : Relay P). MustReadOn x) was must)
+
       work : ℕ
-      work = left_to_do rest r.driven.chain [] + errors_left r.driven
+      work = left_to_do rest r.driven.chain [] + calls_left r.driven
 
       work' : ℕ
-      work' = left_to_do rest m.driven.chain [] + errors_left m.driven
+      work' = left_to_do rest m.driven.chain [] + calls_left m.driven
 
       Paid : BodyStep → Type 0
       Paid result = Falls (number_left a.log.state.pending (relay_left setup rest v r)) (set_leaving result)
@@ -213,47 +233,47 @@ module _ {P : Type 0} (ct ot : Bool) (setup : Setup) (rest : P → List ℕ → 
 
       less_paid : work' + 1 ≤ work → Paid S.Goes
       less_paid less = paid_sum a.log.state.pending b.log.state.pending (agains_left v) (λ x. body_work setup
-          rest (errors_left r.driven) x v r.driven.chain)
-          (λ x. body_work setup rest (errors_left m.driven) x v m.driven.chain) 0 (λ x.
+          rest (calls_left r.driven) x v r.driven.chain (has_come r))
+          (λ x. body_work setup rest (calls_left m.driven) x v m.driven.chain (has_come m)) 0 (λ x.
           subst (λ (g : Bool). events_paid * (end_room + (x + length v.client.outbox) + to_hear setup v.origin
           + pump_weight * work' + to_end g) + length b.log.state.pending + 0
-          ≤ events_paid * body_work setup rest (errors_left r.driven) x v r.driven.chain + length
-          a.log.state.pending) (sym given)
+          ≤ events_paid * body_work setup rest (calls_left r.driven) x v r.driven.chain (has_come r) + length
+          a.log.state.pending) (sym come)
           (stage_less (length a.log.state.pending) (length c.log.state.pending) (length b.log.state.pending) x
-          (length v.client.outbox) (to_hear setup v.origin) work work' (to_end r.driven.chain.given) 0
+          (length v.client.outbox) (to_hear setup v.origin) work work' (to_end (has_come r)) 0
           less acts.few.pending settles.adds.few.pending (omega arith)))
 
       ended_paid : Paid S.Lacks
       ended_paid = paid_sum a.log.state.pending b.log.state.pending (agains_left v) (λ x. body_work setup rest
-          (errors_left r.driven) x v r.driven.chain) (λ x. 0) 1 (λ x.
+          (calls_left r.driven) x v r.driven.chain (has_come r)) (λ x. 0) 1 (λ x.
           stage_ended (length a.log.state.pending) (length c.log.state.pending) (length b.log.state.pending) x
           (length v.client.outbox) (to_hear setup v.origin) (pump_weight * work)
-          (to_end r.driven.chain.given) acts.few.pending settles.adds.few.pending)
+          (to_end (has_come r)) acts.few.pending settles.adds.few.pending)
 
       -- no event was set, and there is no more to do
       rests_paid : work' ≤ work → length b.log.state.pending ≤ length a.log.state.pending → Paid S.Goes
       rests_paid few none = paid_sum a.log.state.pending b.log.state.pending (agains_left v) (λ x. body_work
-          setup rest (errors_left r.driven) x v r.driven.chain)
-          (λ x. body_work setup rest (errors_left m.driven) x v m.driven.chain) 0 (λ x.
+          setup rest (calls_left r.driven) x v r.driven.chain (has_come r))
+          (λ x. body_work setup rest (calls_left m.driven) x v m.driven.chain (has_come m)) 0 (λ x.
           subst (λ (g : Bool). events_paid * (end_room + (x + length v.client.outbox) + to_hear setup v.origin
           + pump_weight * work' + to_end g) + length b.log.state.pending + 0
-          ≤ events_paid * body_work setup rest (errors_left r.driven) x v r.driven.chain + length
-          a.log.state.pending) (sym given)
+          ≤ events_paid * body_work setup rest (calls_left r.driven) x v r.driven.chain (has_come r) + length
+          a.log.state.pending) (sym come)
           (stage_rests (length a.log.state.pending) (length b.log.state.pending) x (length v.client.outbox)
-          (to_hear setup v.origin) work work' (to_end r.driven.chain.given) few none))
+          (to_hear setup v.origin) work work' (to_end (has_come r)) few none))
 
       -- the chain is as it was, so that nobody is roused
       quiet : AreBodyEndsRoused v main r → m.driven.chain ≡ r.driven.chain → length c.log.state.pending
           ≤ length a.log.state.pending → length b.log.state.pending ≤ length a.log.state.pending
       quiet ends same none =
           let ends_now : AreBodyEndsRoused v main m = record {
-            writes = λ must. ends.writes (subst (λ (x : ChainState P). MustSend v x) same must);
+            writes = λ must. ends.writes (still_send same must);
             reads = λ must. subst (λ (x : Relay P). IsRousedIf x.reader) (sym was)
-                (ends.reads (subst (λ (x : ChainState P). MustRead x) same must));
+                (ends.reads (still_read same must));
           } in
           omega (arith, ap (λ (x : Context). length x.log.state.pending) (settles.rests ends_now), none)
 
-      -- while the chain runs each of its errors counts
+      -- while the chain runs each of the calls counts
       counted : (b : Bool) (n : ℕ) → b ≡ true → (if b then n else 0) ≡ n
       counted true n runs = refl
       counted false n runs = absurd (false≢true runs)
@@ -271,17 +291,17 @@ module _ {P : Type 0} (ct ot : Bool) (setup : Setup) (rest : P → List ℕ → 
       running_paid : r.driven.running ≡ true → AreBodyEndsRoused v main r → StageDid rest r.driven.chain
           m.driven.chain r.driven.table.items m.driven.table.items a c → Paid S.Goes
       running_paid is_running ends (inl done) = less_paid
-          (less_sum (left_to_do rest r.driven.chain []) (left_to_do rest m.driven.chain []) (errors_to_pass
-          r.driven.table.items) (errors_to_pass m.driven.table.items) (errors_left r.driven)
-          (errors_left m.driven)
-          done (counted r.driven.running (errors_to_pass r.driven.table.items) is_running)
-          (at_most m.driven.running (errors_to_pass m.driven.table.items)))
-      running_paid is_running ends (inr (same, errors, none)) = rests_paid
-          (same_sum (left_to_do rest r.driven.chain []) (left_to_do rest m.driven.chain []) (errors_to_pass
-          r.driven.table.items) (errors_to_pass m.driven.table.items) (errors_left r.driven)
-          (errors_left m.driven)
-          (ap (λ (x : ChainState P). left_to_do rest x []) same) errors (counted r.driven.running
-          (errors_to_pass r.driven.table.items) is_running) (at_most m.driven.running (errors_to_pass
+          (less_sum (left_to_do rest r.driven.chain []) (left_to_do rest m.driven.chain []) (upstream_calls
+          r.driven.table.items) (upstream_calls m.driven.table.items) (calls_left r.driven)
+          (calls_left m.driven)
+          done (counted r.driven.running (upstream_calls r.driven.table.items) is_running)
+          (at_most m.driven.running (upstream_calls m.driven.table.items)))
+      running_paid is_running ends (inr (same, calls, none)) = rests_paid
+          (same_sum (left_to_do rest r.driven.chain []) (left_to_do rest m.driven.chain []) (upstream_calls
+          r.driven.table.items) (upstream_calls m.driven.table.items) (calls_left r.driven)
+          (calls_left m.driven)
+          (ap (λ (x : ChainState P). left_to_do rest x []) same) calls (counted r.driven.running
+          (upstream_calls r.driven.table.items) is_running) (at_most m.driven.running (upstream_calls
           m.driven.table.items)))
           (quiet ends same none)
 
@@ -289,8 +309,8 @@ module _ {P : Type 0} (ct ot : Bool) (setup : Setup) (rest : P → List ℕ → 
           r.driven.table.items m.driven.table.items a c → Paid S.Goes
       goes_paid (inl (is_running, ends)) did = running_paid is_running ends did
       goes_paid (inr spent) did = rests_paid
-          (add-le-add less (errors_fewer m.driven.running r.driven.running (errors_to_pass
-          m.driven.table.items) (errors_to_pass r.driven.table.items) fewer runs))
+          (add-le-add less (calls_fewer m.driven.running r.driven.running (upstream_calls
+          m.driven.table.items) (upstream_calls r.driven.table.items) fewer runs))
           (spent_none a b (grows_trans acts.grows settles.adds.grows) spent)
 
       by_step : (step : BodyStep) → OnGoes step ⊤ → IsBodyCovered v main r a.log.state.next
@@ -319,11 +339,11 @@ module _ {P : Type 0} (ct ot : Bool) (setup : Setup) (rest : P → List ℕ → 
     (r q m s : Relay P) (a c b : Context) where
   -- what was not to be sent needs nobody
   pub send_pays : t ≡ unroused main → StepsChain step 1 r.driven m.driven a c
-      → LowersBody ct ot (MustSend v r.driven.chain) setup rest step v w r m a c
+      → LowersBody ct ot (MustSend v r) setup rest step v w r m a c
       → SettlesAfter step result w t u m s c b → s ≡ record m { reader = s.reader }
       → PaysBody ct ot setup rest result v w main r s a b
   send_pays is chain lowers settles same =
-      end_pays ct ot (MustSend v r.driven.chain) setup rest step result v w main t u r r m s a c b
+      end_pays ct ot (MustSend v r) setup rest step result v w main t u r r m s a c b
       refl (λ of. of)
       (λ free ends. record { writes = λ must. absurd (free must); reads = ends.reads }) lowers
       (few_two chain.adds.few) settles same
@@ -332,16 +352,16 @@ module _ {P : Type 0} (ct ot : Bool) (setup : Setup) (rest : P → List ℕ → 
       few_two few = record { next = omega (arith, few.next); pending = omega (arith, few.pending) }
 
   pub read_pays : q ≡ record r { reader = unroused r.reader } → t ≡ main → StepsChain step 2 q.driven m.driven
-      a c → LowersBody ct ot (MustRead q.driven.chain) setup rest step v w q m a c
+      a c → LowersBody ct ot (MustReadOn q) setup rest step v w q m a c
       → SettlesAfter step result w t u m s c b → s ≡ record m { reader = s.reader }
       → PaysBody ct ot setup rest result v w main r s a b
   read_pays is same_main chain lowers settles same =
-      end_pays ct ot (MustRead q.driven.chain) setup rest step result v w main t u r q m s a c b
+      end_pays ct ot (MustReadOn q) setup rest step result v w main t u r q m s a c b
       (ap (λ (x : Relay P). relay_left setup rest v x) is) (λ of. subst (λ (x : Relay P). IsOfLines setup rest
       x.driven.chain) (sym is) of)
       (λ free ends. record {
         writes = λ must. subst (λ (x : Option StageContinuation). IsRousedIf x) (sym same_main)
-            (ends.writes (subst (λ (x : Relay P). MustSend v x.driven.chain) is must));
+            (ends.writes (subst (λ (x : Relay P). MustSend v x) is must));
         reads = λ must. absurd (free must);
       }) lowers chain.adds.few settles same
 
@@ -350,18 +370,18 @@ module _ {P : Type 0} (ct ot : Bool) (setup : Setup) (rest : P → List ℕ → 
 module _ {P : Type 0} (ct ot : Bool) (setup : Setup) (rest : P → List ℕ → List ℕ) (pause : P → ℕ) (role : ℕ)
     (event : Event) (answer : Result ⊤ SetFault) (result : BodyStep) (v : View)
     (main u : Option StageContinuation) (r s : Relay P) (e : DrivenChain P) (a c b : Context) where
-  -- a stage's event, or one of nobody, passes on no more errors
-  driven_errors : ((at : ℕ) → role ≡ FIRST + at → IsStage r.driven.chain r.driven.table.items at → Acts rest
+  -- a stage's event, or one of nobody, leaves no more calls to be made upstream
+  driven_calls : ((at : ℕ) → role ≡ FIRST + at → IsStage r.driven.chain r.driven.table.items at → Acts rest
       pause at event r.driven e a c) → (IsOfNoStage FIRST role r.driven → e ≡ r.driven)
-      → errors_to_pass e.table.items ≤ errors_to_pass r.driven.table.items
-  driven_errors acts other = by_stage (stage_at role r.driven.chain r.driven.table.items)
+      → upstream_calls e.table.items ≤ upstream_calls r.driven.table.items
+  driven_calls acts other = by_stage (stage_at role r.driven.chain r.driven.table.items)
     where
       by_stage : ((at : ℕ) × (role ≡ FIRST + at) × IsStage r.driven.chain r.driven.table.items at) ⊎ ((at : ℕ)
           → role ≡ FIRST + at → IsStage r.driven.chain r.driven.table.items at → ⊥)
-          → errors_to_pass e.table.items ≤ errors_to_pass r.driven.table.items
-      by_stage (inl (at, is, stage)) = errors_fall rest pause at r.driven.chain e.chain r.driven.table.items _
+          → upstream_calls e.table.items ≤ upstream_calls r.driven.table.items
+      by_stage (inl (at, is, stage)) = calls_fall rest pause at r.driven.chain e.chain r.driven.table.items _
           e.table.items r.driven.running e.running a c event (acts at is stage)
-      by_stage (inr none) = le_of_eq (ap (λ (x : DrivenChain P). errors_to_pass x.table.items) (other none))
+      by_stage (inr none) = le_of_eq (ap (λ (x : DrivenChain P). upstream_calls x.table.items) (other none))
 
   -- nor has the chain more to do
   chain_less : (l l' : ℕ) (c d : ChainState P) → l' ≡ left_to_do rest d [] → l ≡ left_to_do rest c []
@@ -372,16 +392,18 @@ module _ {P : Type 0} (ct ot : Bool) (setup : Setup) (rest : P → List ℕ → 
 
   pub role_pays : ((at : ℕ) → role ≡ FIRST + at → IsStage r.driven.chain r.driven.table.items at → Acts rest
       pause at event r.driven e a c) → (IsOfNoStage FIRST role r.driven → e ≡ r.driven)
-      → StillGives rest r.driven.chain e.chain r.driven.table.items e.table.items a c → ActsWithin 4 a c
+      → (soon : P → List ℕ → Option (List ℕ))
+      → StillGives rest soon r.driven.chain e.chain r.driven.table.items e.table.items a c → ActsWithin 4 a c
       → Loses answer r.driven e a c
       → SettlesAfter (step_after answer) result v main u (record r { driven = e }) s c b
       → s ≡ record (record r { driven = e }) { reader = s.reader } → PaysBody ct ot setup rest result v v main
       r s a b
-  role_pays acts other gives within loses settles same =
+  role_pays acts other soon gives within loses settles same =
       stage_pays ct ot setup rest (step_after answer) result v main u r (record r { driven = e }) s a c b
       (goes_after answer) (handled_lines setup rest r.driven.chain e.chain gives.once) refl gives.given
       (chain_less (left_to_do rest r.driven.chain []) (left_to_do rest e.chain []) r.driven.chain e.chain
-      refl refl (once_works rest r.driven.chain e.chain gives.once)) (driven_errors acts other)
+      refl refl (once_works rest r.driven.chain e.chain gives.once)) (driven_calls acts other)
       (loses_runs answer r.driven e a c loses)
-      (stage_did rest r.driven.chain e.chain r.driven.table.items e.table.items a c gives (driven_errors acts
+      (stage_did rest r.driven.chain e.chain r.driven.table.items e.table.items a c soon gives (driven_calls
+      acts
       other)) within settles same

@@ -1,11 +1,11 @@
 -- Where each step of an end of a body leads, what a transaction has left to do is less; or the end had
 -- nothing to do.
 use Rattle.std.proofs.Common.{◌≡◌, ◌≢◌, ◌⊎◌, inl, inr, ℕ, ◌+◌, ◌*◌, ◌<◌, ◌≤◌, List, [], ◌∷◌, ◌++◌, length}
-use Rattle.std.proofs.Common.{Bool, true, false, Result, Ok, Err, arith, refl, sym, ap, subst, ◌∙◌}
+use Rattle.std.proofs.Common.{Bool, true, false, ◌||◌, Result, Ok, Err, arith, refl, sym, ap, subst, ◌∙◌}
 use Rattle.std.proofs.Common.{length-append}
-use Rattle.std.proofs.Math.Nat.{le_of_eq}
+use Rattle.std.proofs.Math.Nat.{le_of_eq, le_trans}
 use Rattle.std.proofs.lemmas.List.{append-nil}
-use Rattle.std.specs.Prelude.{Option, Some, None, ⊤, if◌then◌else◌}
+use Rattle.std.specs.Prelude.{Option, Some, None, is_some, ⊤, if◌then◌else◌}
 use Rattle.std.proofs.lemmas.Bool.{false≢true}
 use Rattle.ts_config.specs.declared.setup.Setup.{Setup}
 use Rattle.ts_group.specs.declared.action.SetFault.{SetFault}
@@ -14,12 +14,13 @@ use Rattle.ts_group.specs.Context.{Context}
 use Rattle.ts_hooks.specs.declared.txn_end.TxnEnd.{TxnEnd}
 use Rattle.ts_link.specs.Link.{AgainsFall, Fewer}
 use Rattle.ts_transform.specs.Driven.{Loses}
-use Rattle.ts_transform.specs.Driving.{all_unroused, errors_to_pass}
+use Rattle.ts_transform.specs.Driving.{all_unroused, upstream_calls}
 use Rattle.ts_transform.specs.declared.driven.DrivenChain.{DrivenChain}
-use Rattle.ts_transform.specs.Flow.{ChainState, IsFinished, Takes, TakesAway, client_wait, left_to_do}
+use Rattle.ts_transform.specs.Flow.{ChainState, Takes, TakesAway, client_wait, given_if, left_to_do, wants}
 use Rattle.ts_transform.specs.Stage.{rest_of, to_end}
+use Rattle.ts_transform.specs.declared.pump.Part.{Part}
 use Rattle.ts_transform.specs.declared.pump.Stage.{Stage}
-use Rattle.ts_transform.proofs.PassedErrors.{errors_same}
+use Rattle.ts_transform.proofs.PassedErrors.{calls_same}
 use Rattle.ts_vconn.specs.declared.moves.Pulled.{Pulled}
 use Rattle.ts_vconn.specs.declared.moves.Pulled.TheVariants as L
 use Rattle.ts_vconn.specs.declared.moves.Pushed.{Pushed}
@@ -33,15 +34,16 @@ use Rattle.ts_phases.specs.View.{LinkSide, View}
 use Rattle.ts_phases.specs.Moving.{WritesClient}
 use Rattle.ts_phases.specs.RelayMoves.{FramesEnd, FramesPiece, QueuesNothing, ReadsOrigin}
 use Rattle.ts_relay.specs.Relaying.{step_after}
-use Rattle.ts_relay.specs.Duties.{MustSend, WhileGoes}
-use Rattle.ts_relay.specs.Feeding.{DrainsOrigin, FeedsTo, GetsPart, OnGoes}
-use Rattle.ts_relay.specs.Inserted.{AddsNoMore, AllAddNoMore}
+use Rattle.ts_relay.specs.Duties.{MustEnd, MustReadOn, MustSend, WhileGoes}
+use Rattle.ts_relay.specs.Feeding.{DrainsOrigin, FeedsBody, FeedsTo, GetsPart, OnGoes, short_if}
+use Rattle.ts_relay.specs.Inserted.{AllChangeNoMore, ChangesNoMore}
 use Rattle.ts_phases.specs.Lowering.{agains_left, end_room, if_told, pump_weight, to_hear}
 use Rattle.ts_relay.specs.LoweringBody.{HasNothingDue, IsOfLines, LowersBody, StaysOfLines, body_left}
-use Rattle.ts_relay.specs.LoweringBody.{body_work, ended_left, errors_left, left_after, relay_left}
+use Rattle.ts_relay.specs.LoweringBody.{body_work, calls_left, ended_left, has_come, left_after, relay_left}
 use Rattle.ts_relay.specs.declared.last_writes.BodyStep.{BodyStep}
 use Rattle.ts_relay.specs.declared.last_writes.BodyStep.TheVariants as S
 use Rattle.ts_relay.specs.declared.relay.Relay.{Relay}
+use Rattle.ts_relay.specs.declared.relay.Short.{Short}
 use Rattle.ts_phases.proofs.Lowering.{none_fall, same_length, still_hear}
 use Rattle.ts_relay.proofs.LoweringBody.{closes, feeds_on, frames_end, frames_piece, queues_same, reads_on}
 use Rattle.ts_relay.proofs.LoweringBody.{to_close, to_ended, to_finish, writes_on}
@@ -49,26 +51,27 @@ use Rattle.ts_phases.proofs.LoweringSteps.{Calm, client_told, reads_calm, sends_
 
 -- ---- what is left does not depend on who is roused
 
--- a chain that runs only if it ran has no more of them
-pub errors_fewer : (b' b : Bool) (e' e : ℕ) → e' ≤ e → (b' ≡ true → b ≡ true)
+-- a chain that runs only if it ran may make no more calls upstream
+pub calls_fewer : (b' b : Bool) (e' e : ℕ) → e' ≤ e → (b' ≡ true → b ≡ true)
     → (if b' then e' else 0) ≤ (if b then e else 0)
-errors_fewer true true e' e fewer runs = omega (arith, fewer)
-errors_fewer true false e' e fewer runs = absurd (false≢true (runs refl))
-errors_fewer false true e' e fewer runs = omega arith
-errors_fewer false false e' e fewer runs = omega arith
+calls_fewer true true e' e fewer runs = omega (arith, fewer)
+calls_fewer true false e' e fewer runs = absurd (false≢true (runs refl))
+calls_fewer false true e' e fewer runs = omega arith
+calls_fewer false false e' e fewer runs = omega arith
 
--- fewer errors are less to do
-fewer_errors : {P : Type 0} (setup : Setup) (rest : P → List ℕ → List ℕ) (n n' : ℕ) (m : Option ℕ) (w : View)
-    (d : ChainState P) → n ≤ n' → Fewer m (body_left setup rest n' w d) → Fewer m (body_left setup rest n w d)
-fewer_errors setup rest n n' None w d less fell = tt
-fewer_errors setup rest n n' (Some x) w d less fell = by_told (agains_left w) fell
+-- fewer calls are less to do
+fewer_calls : {P : Type 0} (setup : Setup) (rest : P → List ℕ → List ℕ) (n n' : ℕ) (m : Option ℕ) (w : View)
+    (d : ChainState P) (come : Bool) → n ≤ n' → Fewer m (body_left setup rest n' w d come)
+    → Fewer m (body_left setup rest n w d come)
+fewer_calls setup rest n n' None w d come less fell = tt
+fewer_calls setup rest n n' (Some x) w d come less fell = by_told (agains_left w) fell
   where
     by_told : (t : Option ℕ) → Fewer (Some x) (if_told t (Some 0) (λ again upload. body_work setup rest n'
-        again w d)) → Fewer (Some x) (if_told t (Some 0) (λ again upload. body_work setup rest n again w
-        d))
+        again w d come)) → Fewer (Some x) (if_told t (Some 0) (λ again upload. body_work setup rest n again w
+        d come))
     by_told None fell = absurd fell
     by_told (Some y) fell = work_less x (end_room + (y + length w.client.outbox) + to_hear setup w.origin)
-        (left_to_do rest d []) (to_end d.given) less fell
+        (left_to_do rest d []) (to_end come) less fell
       where
         work_less : (x a b c : ℕ) → n ≤ n' → a + pump_weight * (b + n') + c < x → a + pump_weight * (b + n)
             + c < x
@@ -90,15 +93,16 @@ ended_if (Some x) (Some x') (Some y) f fell = omega (arith, fell)
 
 -- ---- bytes were taken from a chain, or came to it
 
-taken_adds : {P : Type 0} (rest : P → List ℕ → List ℕ) (from : List ℕ) (ss : List (Stage P)) (n : ℕ)
-    (from' : List ℕ) (ss' : List (Stage P)) → Takes from ss n from' ss' → AllAddNoMore rest ss
-    → AllAddNoMore rest ss'
-taken_adds {P} rest from [] n from' ss' takes all = subst (λ (xs : List (Stage P)). AllAddNoMore rest xs)
+taken_changes : {P : Type 0} (rest : P → List ℕ → List ℕ) (from : List ℕ) (ss : List (Stage P)) (n : ℕ)
+    (from' : List ℕ) (ss' : List (Stage P)) → Takes from ss n from' ss' → AllChangeNoMore rest ss
+    → AllChangeNoMore rest ss'
+taken_changes {P} rest from [] n from' ss' takes all = subst (λ (xs : List (Stage P)). AllChangeNoMore rest
+    xs)
     (sym takes.1) tt
-taken_adds rest from (s ∷ ss) n from' [] takes all = tt
-taken_adds {P} rest from (s ∷ ss) n from' (s' ∷ ss') takes all = (
-  subst (λ (p : Option P). AddsNoMore (rest_of rest p)) (sym takes.1) all.0,
-  taken_adds rest s.after ss n
+taken_changes rest from (s ∷ ss) n from' [] takes all = tt
+taken_changes {P} rest from (s ∷ ss) n from' (s' ∷ ss') takes all = (
+  subst (λ (p : Option (Part P)). ChangesNoMore (rest_of rest p)) (sym takes.1) all.0,
+  taken_changes rest s.after ss n
       s'.after ss' takes.2 all.1,
 )
 
@@ -106,14 +110,14 @@ taken_lines : {P : Type 0} (setup : Setup) (rest : P → List ℕ → List ℕ) 
     → TakesAway rest n c d → IsOfLines setup rest c → IsOfLines setup rest d
 taken_lines setup rest n c d takes lines = record {
   few = omega (arith, takes.len, lines.few);
-  adds = taken_adds rest c.first c.stages n d.first d.stages takes.takes lines.adds;
+  changes = taken_changes rest c.first c.stages n d.first d.stages takes.takes lines.changes;
 }
 
 pub same_lines : {P : Type 0} (setup : Setup) (rest : P → List ℕ → List ℕ) (c d : ChainState P)
     → d.stages ≡ c.stages → IsOfLines setup rest c → IsOfLines setup rest d
 same_lines {P} setup rest c d same lines = record {
   few = omega (arith, ap length same, lines.few);
-  adds = subst (λ (ss : List (Stage P)). AllAddNoMore rest ss) (sym same) lines.adds;
+  changes = subst (λ (ss : List (Stage P)). AllChangeNoMore rest ss) (sym same) lines.changes;
 }
 
 -- ---- nothing rose
@@ -162,7 +166,8 @@ module _ {P : Type 0} (ct ot : Bool) (must : Type 0) (setup : Setup) (rest : P �
     pub writes_goes : (n : ℕ) → WritesClient ct v w (V.Some n) → LowersBody ct ot must setup rest S.Goes v w r
         r a a
     writes_goes n writes = lowers_by S.Goes v w r r a a refl same_relay (λ told also of.
-        writes_on setup rest (errors_left r.driven) v w r.driven.chain (V.Some n) (client_told ct v w
+        writes_on setup rest (calls_left r.driven) v w r.driven.chain (has_come r) (V.Some n) (client_told ct
+        v w
         (V.Some n) told writes) (omega arith))
 
     -- something waits, so that one write was made
@@ -172,19 +177,22 @@ module _ {P : Type 0} (ct ot : Bool) (must : Type 0) (setup : Setup) (rest : P �
 
     pub writes_waits : WritesClient ct v w V.Again → LowersBody ct ot must setup rest S.Waits v w r r a a
     writes_waits writes = lowers_by S.Waits v w r r a a refl same_relay (λ told also of.
-        writes_on setup rest (errors_left r.driven) v w r.driven.chain V.Again (client_told ct v w V.Again
+        writes_on setup rest (calls_left r.driven) v w r.driven.chain (has_come r) V.Again (client_told ct v w
+        V.Again
         told writes) (omega arith))
 
     pub writes_closes : (p : Pushed) (end : TxnEnd) → WritesClient ct v w p → LowersBody ct ot must setup rest
         (S.Closes end) v w r r a a
     writes_closes p end writes = lowers_by (S.Closes end) v w r r a a refl tt (λ told also of.
-        to_close setup rest (errors_left r.driven) (push_again p) v w r.driven.chain (sends_calm setup v w p
+        to_close setup rest (calls_left r.driven) (push_again p) v w r.driven.chain (has_come r) (sends_calm
+        setup v w p
         (client_told ct v w p told writes)))
 
     pub writes_lacks : (p : Pushed) → WritesClient ct v w p → LowersBody ct ot must setup rest S.Lacks v w r r
         a a
     writes_lacks p writes = lowers_by S.Lacks v w r r a a refl tt (λ told also of.
-        to_ended setup rest (errors_left r.driven) (push_again p) v w r.driven.chain (sends_calm setup v w p
+        to_ended setup rest (calls_left r.driven) (push_again p) v w r.driven.chain (has_come r) (sends_calm
+        setup v w p
         (client_told ct v w p told writes)))
 
     -- ---- the end of the body is framed
@@ -192,11 +200,18 @@ module _ {P : Type 0} (ct ot : Bool) (must : Type 0) (setup : Setup) (rest : P �
     pub lowers_whole : (end : TxnEnd) → FramesEnd v w → LowersBody ct ot must setup rest (S.Finishes end) v w
         r r a a
     lowers_whole end frames = lowers_by (S.Finishes end) v w r r a a refl tt (λ told also of. frames_end setup
-        rest (errors_left r.driven) v w r.driven.chain frames)
+        rest (calls_left r.driven) v w r.driven.chain (has_come r) frames)
+
+    -- nothing is framed any more
+    pub lowers_short : (end : TxnEnd) → w ≡ v → LowersBody ct ot must setup rest (S.Finishes end) v w r r a a
+    lowers_short end same = lowers_by (S.Finishes end) v w r r a a refl tt (λ told also of.
+        to_finish setup rest (calls_left r.driven) false v w r.driven.chain (has_come r)
+        (stays_calm setup v w same))
 
     pub queues_lacks : QueuesNothing v w → LowersBody ct ot must setup rest S.Lacks v w r r a a
     queues_lacks queues = lowers_by S.Lacks v w r r a a refl tt (λ told also of.
-        to_ended setup rest (errors_left r.driven) false v w r.driven.chain (queues_calm setup v w queues))
+        to_ended setup rest (calls_left r.driven) false v w r.driven.chain (has_come r) (queues_calm setup v w
+        queues))
 
     -- ---- one read of the origin
 
@@ -209,23 +224,26 @@ module _ {P : Type 0} (ct ot : Bool) (must : Type 0) (setup : Setup) (rest : P �
     pub reads_goes : (n : ℕ) → ReadsOrigin ot v w (L.Some n) → LowersBody ct ot must setup rest S.Goes v w r r
         a a
     reads_goes n reads = lowers_by S.Goes v w r r a a refl same_relay (λ told also of.
-        reads_on setup rest (errors_left r.driven) v w r.driven.chain (L.Some n) (also_told (L.Some n) also
+        reads_on setup rest (calls_left r.driven) v w r.driven.chain (has_come r) (L.Some n) (also_told
+        (L.Some n) also
         reads) (omega arith))
 
     pub reads_waits : ReadsOrigin ot v w L.Again → LowersBody ct ot must setup rest S.Waits v w r r a a
     reads_waits reads = lowers_by S.Waits v w r r a a refl same_relay (λ told also of.
-        reads_on setup rest (errors_left r.driven) v w r.driven.chain L.Again (also_told L.Again also reads)
+        reads_on setup rest (calls_left r.driven) v w r.driven.chain (has_come r) L.Again (also_told L.Again
+        also reads)
         (omega arith))
 
     pub reads_finishes : (p : Pulled) (end : TxnEnd) → ReadsOrigin ot v w p → LowersBody ct ot must setup rest
         (S.Finishes end) v w r r a a
     reads_finishes p end reads = lowers_by (S.Finishes end) v w r r a a refl tt (λ told also of.
-        to_finish setup rest (errors_left r.driven) (pull_again p) v w r.driven.chain
+        to_finish setup rest (calls_left r.driven) (pull_again p) v w r.driven.chain (has_come r)
         (read_calm p (also_told p also reads)))
 
     pub stands_lacks : w ≡ v → LowersBody ct ot must setup rest S.Lacks v w r r a a
     stands_lacks same = lowers_by S.Lacks v w r r a a refl tt (λ told also of.
-        to_ended setup rest (errors_left r.driven) false v w r.driven.chain (stays_calm setup v w same))
+        to_ended setup rest (calls_left r.driven) false v w r.driven.chain (has_come r) (stays_calm setup v w
+        same))
 
   -- ---- a piece is framed, and taken from the chain
 
@@ -242,90 +260,122 @@ module _ {P : Type 0} (ct ot : Bool) (must : Type 0) (setup : Setup) (rest : P �
     lines_after (Err F.Dead) lines = tt
     lines_after _ lines = lines
 
-    -- no more errors count than did
-    with_table : SameTable → (m : Option ℕ) → Fewer m (body_left setup rest (errors_left r.driven) w
-        s.driven.chain) → Fewer m (relay_left setup rest w s)
-    with_table same m fell = fewer_errors setup rest (errors_left s.driven) (errors_left r.driven) m w
-        s.driven.chain
-        (errors_fewer s.driven.running r.driven.running (errors_to_pass s.driven.table.items) (errors_to_pass
+    -- no more calls count than did
+    with_table : SameTable → (m : Option ℕ) → Fewer m (body_left setup rest (calls_left r.driven) w
+        s.driven.chain (has_come s)) → Fewer m (relay_left setup rest w s)
+    with_table same m fell = fewer_calls setup rest (calls_left s.driven) (calls_left r.driven) m w
+        s.driven.chain (has_come s)
+        (calls_fewer s.driven.running r.driven.running (upstream_calls s.driven.table.items) (upstream_calls
         r.driven.table.items)
-        (le_of_eq (errors_same r.driven.table.items s.driven.table.items same.0)) same.1) fell
+        (le_of_eq (calls_same r.driven.table.items s.driven.table.items same.0)) same.1) fell
 
     pub frames_after : (answer : Result ⊤ SetFault) (piece : List ℕ) → IsPiece piece → FramesPiece piece v w
-        → TakesAway rest (length piece) r.driven.chain s.driven.chain → SameTable → s.reader ≡ r.reader
+        → TakesAway rest (length piece) r.driven.chain s.driven.chain → SameTable
+        → s ≡ record r { driven = s.driven }
         → LowersBody ct ot must setup rest (step_after answer) v w r s a b
-    frames_after answer piece is frames takes same reader =
-        lowers_by (step_after answer) v w r s a b reader (lines_after answer (taken_lines setup rest
+    frames_after answer piece is frames takes same still =
+        lowers_by (step_after answer) v w r s a b (ap (λ (x : Relay P). x.reader) still)
+        (lines_after answer (taken_lines setup rest
         (length piece) r.driven.chain s.driven.chain takes)) (λ told also of. by_answer answer)
       where
-        goes_on : Fewer (relay_left setup rest v r) (relay_left setup rest w s)
-        goes_on = with_table same (relay_left setup rest v r) (frames_piece setup rest (errors_left r.driven)
-            v w r.driven.chain s.driven.chain piece is frames takes)
+        come_still : has_come s ≡ has_come r
+        come_still = ap (λ (x : Relay P). s.driven.chain.given || is_some x.short) still
+            ∙ ap (λ g. g || is_some r.short) takes.given
+
+        fell : Fewer (relay_left setup rest v r) (body_left setup rest (calls_left r.driven) w s.driven.chain
+            (has_come s))
+        fell = frames_piece setup rest (calls_left r.driven) v w r.driven.chain s.driven.chain (has_come r)
+            (has_come s) piece is frames takes come_still
 
         lacks : Fewer (relay_left setup rest v r) (ended_left w)
-        lacks = ended_by (frames_piece setup rest (errors_left r.driven) v w r.driven.chain s.driven.chain
-            piece is frames takes)
-          where
-            ended_by : Fewer (relay_left setup rest v r) (body_left setup rest (errors_left r.driven) w
-                s.driven.chain) → Fewer (relay_left setup rest v r) (ended_left w)
-            ended_by fell = ended_if (relay_left setup rest v r) (agains_left w) (Some 0)
-                (λ x y. end_room + (x + length w.client.outbox) + to_hear setup w.origin + pump_weight *
-                (left_to_do rest s.driven.chain [] + errors_left r.driven) + to_end s.driven.chain.given)
-                fell
+        lacks = ended_if (relay_left setup rest v r) (agains_left w) (Some 0)
+            (λ x y. body_work setup rest (calls_left r.driven) x w s.driven.chain (has_come s)) fell
 
         by_answer : (answer : Result ⊤ SetFault) → Fewer (relay_left setup rest v r) (left_after setup rest
             (step_after answer) w s)
         by_answer (Err F.NoMemory) = lacks
         by_answer (Err F.Dead) = lacks
-        by_answer _ = goes_on
+        by_answer _ = with_table same (relay_left setup rest v r) fell
 
     -- ---- the body is fed
 
-    given_first : (state : BodyState) (part : List ℕ) → state ≢ B.Bad → GetsPart state part r.driven.chain
-        s.driven.chain
-        → (s.driven.chain.first ≡ r.driven.chain.first ++ part) × (s.driven.chain.stages
-        ≡ r.driven.chain.stages)
-    given_first B.Bad part good gets = absurd (good refl)
-    given_first _ part good gets = (
-      ap (λ (c : ChainState P). c.first) gets,
-      ap (λ (c : ChainState P).
-          c.stages) gets,
-    )
+    -- what the chain gets of it, all of it or nothing
+    given_front : (wanted : Bool) (first part : List ℕ)
+        → (some : List ℕ) × (given_if wanted first part ≡ first ++ some) × (length some ≤ length part)
+    given_front true first part = (part, refl, omega arith)
+    given_front false first part = ([], sym (append-nil first), omega arith)
 
-    -- the end that comes with a part, or is still to come
-    unfinished_less : (piece : ℕ) (c d : Bool) → c ≡ false → d ≡ c → 0 < piece → to_end d + 1 ≤ to_end c
-        + piece
-    unfinished_less piece c d going same some = omega (arith, ap to_end same, some)
+    abbrev GetsSome : List ℕ → Type 0
+    GetsSome part = (some : List ℕ) × (s.driven.chain.first ≡ r.driven.chain.first ++ some)
+        × (length some ≤ length part) × (s.driven.chain.stages ≡ r.driven.chain.stages)
 
-    ended_more : (piece : ℕ) (c d : Bool) → c ≡ false → d ≡ true → to_end d + 1 ≤ to_end c + piece
-    ended_more piece c d going is = omega (arith, ap to_end going, ap to_end is)
+    gets_some : (state : BodyState) (part : List ℕ) → GetsPart state part r.driven.chain s.driven.chain
+        → GetsSome part
+    gets_some B.Ended part gets =
+        let front = given_front (wants r.driven.chain) r.driven.chain.first part in (
+          front.0,
+          ap (λ (c : ChainState P). c.first) gets ∙ front.1,
+          front.2,
+          ap (λ (c : ChainState P). c.stages)
+              gets,
+        )
+    gets_some _ part gets =
+        let front = given_front (wants r.driven.chain) r.driven.chain.first part in (
+          front.0,
+          ap (λ (c : ChainState P). c.first) gets ∙ front.1,
+          front.2,
+          ap (λ (c : ChainState P). c.stages)
+              gets,
+        )
 
-    given_some : (state : BodyState) (piece part : List ℕ) → state ≢ B.Bad
-        → GetsPart state part r.driven.chain s.driven.chain → r.driven.chain.given ≡ false
-        → (0 < length piece) ⊎ (state ≢ B.Unfinished) → to_end s.driven.chain.given + 1 ≤ to_end
-        r.driven.chain.given + length piece
-    given_some B.Unfinished piece part good gets going (inl some) =
-        unfinished_less (length piece) r.driven.chain.given s.driven.chain.given going
-        (ap (λ (c : ChainState P). c.given) gets) some
-    given_some B.Unfinished piece part good gets going (inr finished) = absurd (finished refl)
-    given_some B.Ended piece part good gets going progress = ended_more (length piece) r.driven.chain.given
-        s.driven.chain.given going (ap (λ (c : ChainState P). c.given) gets)
-    given_some B.Bad piece part good gets going progress = absurd (good refl)
+    -- the moment from which no more comes is there now, or is still to come
+    come_less : (piece : ℕ) (come now : Bool) → come ≡ false → now ≡ come → 0 < piece
+        → to_end now + 1 ≤ to_end come + piece
+    come_less piece come now goes same some = omega (arith, ap to_end same, some)
 
-    -- a part of it came to the chain
-    feeds_goes : (state : BodyState) (piece part : List ℕ) → DrainsOrigin v w
-        → v.origin.inbox ≡ piece ++ w.origin.inbox → state ≢ B.Bad
-        → GetsPart state part r.driven.chain s.driven.chain → length part ≤ length piece
-        → r.driven.chain.given ≡ false
-        → (ct ≡ true → ot ≡ true → (0 < length piece) ⊎ (state ≢ B.Unfinished)) → SameTable
+    come_now : (piece : ℕ) (come now : Bool) → come ≡ false → now ≡ true
+        → to_end now + 1 ≤ to_end come + piece
+    come_now piece come now goes is = omega (arith, ap to_end goes, ap to_end is)
+
+    is_short : (g : Bool) → g || true ≡ true
+    is_short true = refl
+    is_short false = refl
+
+    feeds_come : (state : BodyState) (piece : ℕ) (part : List ℕ)
+        → GetsPart state part r.driven.chain s.driven.chain → s.short ≡ short_if state r.short
+        → has_come r ≡ false → (0 < piece) ⊎ (state ≢ B.Unfinished)
+        → to_end (has_come s) + 1 ≤ to_end (has_come r) + piece
+    feeds_come B.Unfinished piece part gets short goes (inl some) =
+        come_less piece (has_come r) (has_come s) goes
+        (ap (λ (c : ChainState P). c.given || is_some s.short) gets
+        ∙ ap (λ (x : Option Short). r.driven.chain.given || is_some x) short) some
+    feeds_come B.Unfinished piece part gets short goes (inr finished) = absurd (finished refl)
+    feeds_come B.Ended piece part gets short goes progress =
+        come_now piece (has_come r) (has_come s) goes
+        (ap (λ (c : ChainState P). c.given || is_some s.short) gets)
+    feeds_come B.Bad piece part gets short goes progress =
+        come_now piece (has_come r) (has_come s) goes
+        (ap (λ (x : Option Short). s.driven.chain.given || is_some x) short ∙ is_short s.driven.chain.given)
+
+    -- where the reader must read on, more may come
+    reads_on_goes : MustReadOn r → has_come r ≡ false
+    reads_on_goes must = ap (λ g. g || is_some r.short) must.1.0
+        ∙ ap (λ (x : Option Short). false || is_some x) must.0
+
+    feeds_goes : FeedsBody r s v.origin.inbox w.origin.inbox → DrainsOrigin v w → MustReadOn r
+        → (ct ≡ true → ot ≡ true → state_of r.body.phase ≡ B.Unfinished) → SameTable
         → s.reader ≡ r.reader → LowersBody ct ot must setup rest S.Goes v w r s a b
-    feeds_goes state piece part drains taken good gets within going progress same reader =
-        let came = given_first state part good gets in
-        lowers_by S.Goes v w r s a b reader (same_lines setup rest r.driven.chain s.driven.chain came.1)
+    feeds_goes fed drains goes unfinished same reader =
+        let got = gets_some (state_of s.body.phase) fed.part fed.gets in
+        lowers_by S.Goes v w r s a b reader (same_lines setup rest r.driven.chain s.driven.chain got.3)
         (λ told also of.
-        with_table same (relay_left setup rest v r) (feeds_on setup rest (errors_left r.driven) v w
-        r.driven.chain s.driven.chain piece part drains taken of came.1 came.0 within
-        (given_some state piece part good gets going (progress told also))))
+        with_table same (relay_left setup rest v r) (feeds_on setup rest (calls_left r.driven) v w
+        r.driven.chain s.driven.chain (has_come r) (has_come s) fed.piece got.0 drains fed.taken of got.3
+        got.1
+        (le_trans got.2 fed.within)
+        (feeds_come (state_of s.body.phase) (length fed.piece) fed.part fed.gets fed.short (reads_on_goes
+        goes)
+        (fed.progress (unfinished told also)))))
 
     drains_calm : (piece : List ℕ) → DrainsOrigin v w → v.origin.inbox ≡ piece ++ w.origin.inbox
         → Calm setup false v w
@@ -340,52 +390,62 @@ module _ {P : Type 0} (ct ot : Bool) (must : Type 0) (setup : Setup) (rest : P �
         behind_less : (all piece behind : ℕ) → all ≡ piece + behind → behind ≤ all
         behind_less all piece behind sum = omega (arith, sum)
 
-    -- it is bad
-    feeds_finishes : (end : TxnEnd) (piece : List ℕ) → DrainsOrigin v w
-        → v.origin.inbox ≡ piece ++ w.origin.inbox → s.reader ≡ r.reader → LowersBody ct ot must setup rest
-        (S.Finishes end) v w r s a b
-    feeds_finishes end piece drains taken reader = lowers_by (S.Finishes end) v w r s a b reader tt
-        (λ told also of.
-        to_finish setup rest (errors_left r.driven) false v w r.driven.chain (drains_calm piece drains taken))
-
     -- memory lacked
     pub feeds_lacks : DrainsOrigin v w → w.origin.inbox ≡ v.origin.inbox → s.reader ≡ r.reader
         → LowersBody ct ot must setup rest S.Lacks v w r s a b
     feeds_lacks drains same reader = lowers_by S.Lacks v w r s a b reader tt (λ told also of.
-        to_ended setup rest (errors_left r.driven) false v w r.driven.chain (drains_calm [] drains
+        to_ended setup rest (calls_left r.driven) false v w r.driven.chain (has_come r) (drains_calm [] drains
         (sym same)))
 
-    -- ---- the chain's input ends
+    -- ---- no more of the body comes: the chain's input ends, or the body stops short
+
+    end_calm : ot ≡ true → ReadsOrigin ot v w L.End → Calm setup false v w
+    end_calm also reads = read_calm v w r a L.End (also_told v w r a L.End also reads)
 
     pub closes_input : (step : BodyStep) → OnGoes step (s.driven.chain ≡ record r.driven.chain {
       given = true;
-    }) → r.driven.chain.given ≡ false → ReadsOrigin ot v w L.End → SameTable → s.reader ≡ r.reader
+    }) → MustReadOn r → ReadsOrigin ot v w L.End → SameTable → s.reader ≡ r.reader
         → LowersBody ct ot must setup rest step v w r s a b
-    closes_input S.Goes ends going reads same reader = lowers_by S.Goes v w r s a b reader (same_lines setup
+    closes_input S.Goes ends goes reads same reader = lowers_by S.Goes v w r s a b reader (same_lines setup
         rest r.driven.chain s.driven.chain (ap (λ (c : ChainState P). c.stages) ends)) (λ told also of.
-        with_table same (relay_left setup rest v r) (closes setup rest (errors_left r.driven) v w
-        r.driven.chain s.driven.chain (read_calm v w r a L.End (also_told v w r a L.End also reads))
-        (ap (λ (x : View). length x.client.outbox) reads.others) going ends))
-    closes_input S.Lacks ends going reads same reader = lowers_by S.Lacks v w r s a b reader tt
+        with_table same (relay_left setup rest v r) (closes setup rest (calls_left r.driven) false v w
+        r.driven.chain s.driven.chain (has_come r) (has_come s) (end_calm also reads)
+        (ap (λ (x : View). length x.client.outbox) reads.others)
+        (ap (λ (c : ChainState P). left_to_do rest c []) ends) (reads_on_goes goes)
+        (ap (λ (c : ChainState P). c.given || is_some s.short) ends)))
+    closes_input S.Lacks ends goes reads same reader = lowers_by S.Lacks v w r s a b reader tt
         (λ told also of.
-        to_ended setup rest (errors_left r.driven) false v w r.driven.chain (read_calm v w r a L.End
-        (also_told v w r a L.End also reads)))
-    closes_input _ ends going reads same reader = absurd ends
+        to_ended setup rest (calls_left r.driven) false v w r.driven.chain (has_come r) (end_calm also reads))
+    closes_input _ ends goes reads same reader = absurd ends
+
+    pub stops_short : (why : Short) → s ≡ record r { short = Some why } → MustReadOn r
+        → ReadsOrigin ot v w L.End → LowersBody ct ot must setup rest S.Goes v w r s a b
+    stops_short why stops goes reads =
+        let driven : s.driven ≡ r.driven = ap (λ (x : Relay P). x.driven) stops in
+        let chain : s.driven.chain ≡ r.driven.chain = ap (λ (d : DrivenChain P). d.chain) driven in
+        lowers_by S.Goes v w r s a b (ap (λ (x : Relay P). x.reader) stops)
+        (same_lines setup rest r.driven.chain s.driven.chain (ap (λ (c : ChainState P). c.stages) chain))
+        (λ told also of.
+        with_table (
+          ap (λ (d : DrivenChain P). all_unroused d.table.items) driven,
+          λ runs.
+              sym (ap (λ (d : DrivenChain P). d.running) driven) ∙ runs,
+        ) (relay_left setup rest v r)
+        (closes setup rest (calls_left r.driven) false v w
+        r.driven.chain s.driven.chain (has_come r) (has_come s) (end_calm also reads)
+        (ap (λ (x : View). length x.client.outbox) reads.others)
+        (ap (λ (c : ChainState P). left_to_do rest c []) chain) (reads_on_goes goes)
+        (ap (λ (x : Relay P). x.driven.chain.given || is_some x.short) stops ∙ is_short
+        r.driven.chain.given)))
 
     -- what waits of the body was fed
-    pub feeds_lower : (step : BodyStep) → FeedsTo step r.body s.body v.origin.inbox w.origin.inbox
-        r.driven.chain s.driven.chain → DrainsOrigin v w → r.driven.chain.given ≡ false
-        → (ct ≡ true → ot ≡ true → state_of r.body.phase ≡ B.Unfinished) → SameTable → s.reader ≡ r.reader
-        → LowersBody ct ot must setup rest step v w r s a b
-    feeds_lower S.Goes feeds drains going unfinished same reader =
-        let fed = feeds.0 in
-        feeds_goes (state_of s.body.phase) fed.piece fed.part drains fed.taken feeds.1 fed.gets fed.within
-        going (λ told also. fed.progress (unfinished told also)) same reader
-    feeds_lower S.Waits feeds drains going unfinished same reader = absurd feeds
-    feeds_lower (S.Finishes end) feeds drains going unfinished same reader = feeds_finishes end feeds.0.piece
-        drains feeds.0.taken reader
-    feeds_lower (S.Closes end) feeds drains going unfinished same reader = absurd feeds
-    feeds_lower S.Lacks feeds drains going unfinished same reader = feeds_lacks drains feeds reader
+    pub feeds_lower : (step : BodyStep) → FeedsTo step r s v.origin.inbox w.origin.inbox → DrainsOrigin v w
+        → MustReadOn r → (ct ≡ true → ot ≡ true → state_of r.body.phase ≡ B.Unfinished) → SameTable
+        → s.reader ≡ r.reader → LowersBody ct ot must setup rest step v w r s a b
+    feeds_lower S.Goes feeds drains goes unfinished same reader =
+        feeds_goes feeds drains goes unfinished same reader
+    feeds_lower S.Lacks feeds drains goes unfinished same reader = feeds_lacks drains feeds.0 reader
+    feeds_lower _ feeds drains goes unfinished same reader = absurd feeds
 
 -- ---- what an end must do
 
@@ -412,9 +472,9 @@ must_weaker ct ot must also setup rest step v w r s a b leads lowers = record {
       quiet = idle.quiet;
     })
 
--- where nothing waits, the first continuation must work once the chain has given all
-pub rest_to_send : {P : Type 0} (v : View) (c : ChainState P) → v.client.outbox ≡ [] → client_wait c ≡ []
-    → MustSend v c → (c.given ≡ true) × IsFinished c
-rest_to_send v c empty none (inl some) = absurd (some empty)
-rest_to_send v c empty none (inr (inl some)) = absurd (some none)
-rest_to_send v c empty none (inr (inr all)) = all
+-- where nothing waits, the first continuation must write only where what the client gets ends
+pub rest_to_send : {P : Type 0} (v : View) (r : Relay P) → v.client.outbox ≡ []
+    → client_wait r.driven.chain ≡ [] → MustSend v r → MustEnd r
+rest_to_send v r empty none (inl some) = absurd (some empty)
+rest_to_send v r empty none (inr (inl some)) = absurd (some none)
+rest_to_send v r empty none (inr (inr all)) = all

@@ -1,8 +1,8 @@
 -- A body that is passed on: what a write to the client, a read of the origin and a piece that is framed leave
 -- of it.
 use Rattle.std.proofs.Common.{◌≡◌, ℕ, ◌≤◌, List, [], ◌∷◌, ◌++◌, length, take, Bool, true, false, Result}
-use Rattle.std.proofs.Common.{Err, refl, sym, ap, subst, ◌∙◌, append_assoc, inl, inr}
-use Rattle.std.specs.Prelude.{flat_map, ⊤}
+use Rattle.std.proofs.Common.{Option, None, Some, Err, refl, sym, ap, subst, ◌∙◌, append_assoc, inl, inr}
+use Rattle.std.specs.Prelude.{◌⊎◌, flat_map, ⊤}
 use Rattle.std.specs.Bool.{OnTrue}
 use Rattle.std.proofs.lemmas.Bool.{OnTrue_from, false≢true, true≢false}
 use Rattle.std.proofs.lemmas.List.{append-nil, map-append}
@@ -10,12 +10,15 @@ use Rattle.std.proofs.lemmas.List.Elements.{All-append, All-cons, All-nil}
 use Rattle.std.proofs.lemmas.Grind.{flat_map-append}
 use Rattle.ts_config.specs.declared.setup.Setup.{Setup}
 use Rattle.ts_config.specs.declared.setup.TransformLine.{TransformLine}
-use Rattle.ts_config.specs.Bodies.{compose_lines}
+use Rattle.ts_config.specs.Bodies.{compose_lines, is_early, soon_lines}
 use Rattle.ts_group.specs.declared.action.SetFault.{SetFault}
 use Rattle.ts_group.specs.declared.action.SetFault.TheVariants as F
+use Rattle.ts_hooks.specs.declared.txn_end.TxnEnd.{TxnEnd}
 use Rattle.ts_hooks.specs.declared.txn_end.TxnEnd.TheVariants as E
 use Rattle.ts_link.specs.Link.{all_of}
-use Rattle.ts_transform.specs.Flow.{ChainState, TakesAway, client_wait, flow, flow_from}
+use Rattle.ts_transform.specs.Flow.{ChainState, IsFinished, TakesAway, client_wait, flow, soon_flow}
+use Rattle.ts_transform.specs.declared.transform.Transform as transform
+use Rattle.ts_transform.proofs.Flowing.{flow-finished}
 use Rattle.ts_vconn.specs.declared.moves.Pulled.{Pulled}
 use Rattle.ts_vconn.specs.declared.moves.Pushed.{Pushed}
 use Rattle.ts_vconn.specs.declared.moves.Pushed.TheVariants as V
@@ -24,23 +27,25 @@ use Rattle.ts_wire.specs.declared.heads.ResponseHead.{ResponseHead}
 use Rattle.ts_wire.specs.Frames.{IsPiece, cut_body, end_of, frame_of, frames}
 use Rattle.ts_wire.specs.declared.body.BodyState.{BodyState}
 use Rattle.ts_wire.specs.declared.body.BodyState.TheVariants as B
-use Rattle.ts_wire.specs.Body.{BodyOf}
+use Rattle.ts_wire.specs.Body.{BodyOf, IsCutShort}
 use Rattle.ts_wire.specs.Place.{Place, state_of}
 use Rattle.ts_wire.proofs.PlaceBody.{place_body}
 use Rattle.ts_block.specs.Relayed.{framing_of}
-use Rattle.ts_block.specs.Block.{BodySays, EndsWith, IsBlock, body_lines, ended, passed_on, relayed_block}
-use Rattle.ts_block.specs.Block.{relayed_head, request_text}
+use Rattle.ts_block.specs.Block.{BodySays, EndsWith, IsBlock, bad, body_lines, cut, early, ended, passed_on}
+use Rattle.ts_block.specs.Block.{relayed_block, relayed_head, request_text}
 use Rattle.ts_block.specs.Heads.{FinalHead}
 use Rattle.ts_phases.specs.View.{LinkSide, View}
 use Rattle.ts_phases.specs.Moving.{SideReads, SideWrites, WritesClient}
 use Rattle.ts_phases.specs.RelayMoves.{QueuesText, FramesEnd, FramesPiece, QueuesNothing, ReadsOrigin}
 use Rattle.ts_phases.specs.Facts as facts
-use Rattle.ts_phases.specs.Ends.{AnyEnd, EndFact, HasText, IsBodyOver, IsFrontThrough, Relayed}
+use Rattle.ts_phases.specs.Ends.{AnyEnd, EndFact, HasText, IsBodyOver, IsFrontThrough, Relayed, StopsShort}
 use Rattle.ts_phases.specs.Ends as ends
-use Rattle.ts_relay.specs.Relaying.{GivesEnd, ReadsBody, RelaysBody, step_after}
-use Rattle.ts_relay.specs.Finishing.{IsFinishing, LeadsBody}
+use Rattle.ts_relay.specs.Relaying.{GivesEnd, IsShort, ReadsBody, RelaysBody, short_end, step_after}
+use Rattle.ts_relay.specs.Finishing.{IsFinishing, LeadsBody, QueuesFor, QueuesShort}
 use Rattle.ts_block.specs.declared.block.Block.{Block}
 use Rattle.ts_relay.specs.declared.last_writes.BodyStep.{BodyStep}
+use Rattle.ts_relay.specs.declared.relay.Short.{Short}
+use Rattle.ts_relay.specs.declared.relay.Short.TheVariants as K
 use Rattle.ts_phases.specs.declared.parts.Sent.{Sent}
 use Rattle.ts_phases.specs.declared.phase.Request.{Request}
 use Rattle.ts_phases.proofs.OneSide.{read_count, write_count, write_failed}
@@ -48,6 +53,7 @@ use Rattle.ts_phases.proofs.Going.{gone_block}
 use Rattle.ts_phases.proofs.Owns.{all_took}
 use Rattle.ts_phases.proofs.Responding.{final_more, served_as}
 use Rattle.ts_phases.proofs.Uploading.{took_request}
+use Rattle.ts_relay.proofs.Early.{FinishesEarly, StaysShort, finished_early, sends_taken, stays_short}
 
 -- ---- the client's text
 
@@ -139,12 +145,6 @@ text_ended v w head body f h = record {
 
 -- ---- what the chain still gives
 
--- bytes that came to a chain stand in front of what still comes
-pub flow_given : {P : Type 0} (rest : P → List ℕ → List ℕ) (c : ChainState P) (given : List ℕ) (over : Bool)
-    (z : List ℕ)
-    → flow rest (record c { first = c.first ++ given; given = over }) z ≡ flow rest c (given ++ z)
-flow_given rest c given over z = ap (flow_from rest c.stages) (append_assoc c.first given z)
-
 -- what was sent is a front of the lines' work
 pub front_by : (b : Bool) (lines : List TransformLine) (read body : List ℕ) (next : List ℕ → List ℕ)
     → ((z : List ℕ) → OnTrue b (z ≡ []) → body ++ next z ≡ compose_lines lines (read ++ z))
@@ -157,92 +157,6 @@ front_by true lines read body next flows = (
 front_by false lines read body next flows = λ more. (next more, flows more tt)
 
 module _ (setup : Setup) (refuses : Type 0) where
-  -- the chain may be dropped at any time
-  pub relays_relayed : {P : Type 0} (rest : P → List ℕ → List ℕ) (v : View) (c : ChainState P) (place : Place)
-      (r : RelaysBody setup refuses rest v c place)
-      → Relayed setup refuses v c.given false r.sends.body
-  relays_relayed rest v c place r = record {
-    q = r.q;
-    h = r.h;
-    served = r.reads.served;
-    good = r.reads.good;
-    fed = r.reads.fed;
-    read = r.read;
-    place = place;
-    reads = r.reads.reads;
-    is_fed = r.reads.is_fed;
-    over = r.gives_end.ended;
-    mode = r.sends.mode;
-    text = r.sends.text;
-    front = front_by c.given (body_lines setup r.q.head r.h) r.read r.sends.body (flow rest c) r.sends.flows;
-    whole = λ fin. absurd (false≢true fin);
-  }
-
-  pub relays_any : {P : Type 0} (rest : P → List ℕ → List ℕ) (v : View) (c : ChainState P) (place : Place)
-      → RelaysBody setup refuses rest v c place
-      → AnyEnd setup refuses v
-  relays_any rest v c place r = record {
-    took = facts.request r.q r.reads.served.goes r.reads.served.carries;
-    text = ends.relayed c.given false r.sends.body (relays_relayed rest v c place r);
-  }
-
-  pub relays_lacks : {P : Type 0} (rest : P → List ℕ → List ℕ) (v : View) (c : ChainState P) (place : Place)
-      → RelaysBody setup refuses rest v c place
-      → EndFact setup refuses v E.NoMemory
-  relays_lacks rest v c place r = record { any = relays_any rest v c place r; by = tt }
-
-  -- ---- a write of what waits for the client
-
-  writes_side : {P : Type 0} (rest : P → List ℕ → List ℕ) (t : Bool) (v : View) (s : LinkSide) (p : Pushed)
-      (c : ChainState P) (place : Place) → t ≡ true
-      → SideWrites t v.client s p → RelaysBody setup refuses rest v c place → RelaysBody setup refuses rest
-      (record v { client = s }) c place
-  writes_side rest t v s p c place told writes r =
-      let takes = writes.pushes.told told in
-      record {
-        q = r.q;
-        h = r.h;
-        read = r.read;
-        reads = subst (λ (b : List ℕ). ReadsBody setup refuses r.q r.h b v.dialed v.origin place r.read)
-            (sym (all_took v.client.look s.look _ r.sends.some takes)) r.reads;
-        gives_end = r.gives_end;
-        sends = record {
-          count = write_count t v.client s p writes r.sends.count;
-          some = λ e. r.sends.some (sym takes.given ∙ e);
-          mode = r.sends.mode;
-          body = r.sends.body;
-          text = text_written t v.client s p v.sent (relayed_head setup r.q.head r.h) r.sends.body false told
-              writes r.sends.text;
-          flows = r.sends.flows;
-        };
-      }
-
-  pub writes_on : {P : Type 0} (rest : P → List ℕ → List ℕ) (t : Bool) (v w : View) (p : Pushed)
-      (c : ChainState P) (place : Place) → t ≡ true
-      → WritesClient t v w p → RelaysBody setup refuses rest v c place → RelaysBody setup refuses rest w c
-      place
-  writes_on rest t v w p c place told writes r =
-      subst (λ (x : View). RelaysBody setup refuses rest x c place) (sym writes.others) (writes_side rest t v
-      w.client p c place told writes.client r)
-
-  pub writes_lacks : {P : Type 0} (rest : P → List ℕ → List ℕ) (t : Bool) (v w : View) (p : Pushed)
-      (c : ChainState P) (place : Place) → t ≡ true
-      → WritesClient t v w p → RelaysBody setup refuses rest v c place → EndFact setup refuses w E.NoMemory
-  writes_lacks rest t v w p c place told writes r = relays_lacks rest w c place (writes_on rest t v w p c
-      place told writes r)
-
-  -- the client's link failed
-  pub writes_left : {P : Type 0} (rest : P → List ℕ → List ℕ) (t : Bool) (v w : View) (c : ChainState P)
-      (place : Place) → t ≡ true
-      → WritesClient t v w V.Failed → RelaysBody setup refuses rest v c place → EndFact setup refuses w
-      E.ClientFault
-  writes_left rest t v w c place told writes r = record {
-    any = relays_any rest w c place (writes_on rest t v w V.Failed c place told writes r);
-    by = write_failed t v.client w.client V.Failed refl writes.client r.sends.count;
-  }
-
-  -- ---- a text that is queued for the client
-
   -- whatever is queued, of the rest nothing changed
   queued_reads : (text cuts : List ℕ) (v w : View) (q : Request) (h : ResponseHead) (place : Place)
       (read : List ℕ) → QueuesText text cuts v w
@@ -256,57 +170,7 @@ module _ (setup : Setup) (refuses : Type 0) where
       (subst (λ (o : LinkSide). ReadsBody setup refuses q h (all_of v.client.look) v.dialed o place read)
       (sym f.origin) r))
 
-  -- a piece of what the chain gave
-  frames_on : {P : Type 0} (rest : P → List ℕ → List ℕ) (v w : View) (c d : ChainState P) (place : Place)
-      (piece : List ℕ) (n : ℕ) → FramesPiece piece v w
-      → IsPiece piece → TakesAway rest n c d → piece ≡ take n (client_wait c) → RelaysBody setup refuses rest
-      v c place → RelaysBody setup refuses rest w d place
-  frames_on rest v w c d place piece n f is takes same r = record {
-    q = r.q;
-    h = r.h;
-    read = r.read;
-    reads = queued_reads (frame_of v.sent.mode piece) (length piece ∷ []) v w r.q r.h place r.read f r.reads;
-    gives_end = subst (λ (o : LinkSide). GivesEnd setup refuses r.q r.h o place d.given) (sym f.origin)
-        (subst (λ (b : Bool). GivesEnd setup refuses r.q r.h v.origin place b) (sym takes.given) r.gives_end);
-    sends = record {
-      count = subst (λ (s : LinkSide). s.base ≤ s.look.faults) (sym f.client) r.sends.count;
-      some = λ e. r.sends.some (sym (ap (λ (s : LinkSide). s.look.given) f.client) ∙ e);
-      mode = f.adds.mode ∙ r.sends.mode;
-      body = r.sends.body ++ piece;
-      text = text_framed v w (relayed_head setup r.q.head r.h) r.sends.body piece f is r.sends.text;
-      flows = λ z last. append_assoc r.sends.body piece (flow rest d z)
-          ∙ ap (λ (x : List ℕ). r.sends.body ++ (x ++ flow rest d z)) same
-          ∙ ap (λ (x : List ℕ). r.sends.body ++ x) (sym (takes.flow z))
-          ∙ r.sends.flows z (subst (λ (b : Bool). OnTrue b (z ≡ [])) takes.given last);
-    };
-  }
-
-  -- memory lacked for it
-  pub frames_lacks : {P : Type 0} (rest : P → List ℕ → List ℕ) (v w : View) (c : ChainState P) (place : Place)
-      → QueuesNothing v w
-      → RelaysBody setup refuses rest v c place → EndFact setup refuses w E.NoMemory
-  frames_lacks rest v w c place f r = relays_lacks rest w c place (record {
-    q = r.q;
-    h = r.h;
-    read = r.read;
-    reads = queued_reads [] [] v w r.q r.h place r.read f r.reads;
-    gives_end = subst (λ (o : LinkSide). GivesEnd setup refuses r.q r.h o place c.given) (sym f.origin)
-        r.gives_end;
-    sends = record {
-      count = subst (λ (s : LinkSide). s.base ≤ s.look.faults) (sym f.client) r.sends.count;
-      some = λ e. r.sends.some (sym (ap (λ (s : LinkSide). s.look.given) f.client) ∙ e);
-      mode = f.adds.mode ∙ r.sends.mode;
-      body = r.sends.body;
-      text = text_as v.client w.client v.sent w.sent (relayed_head setup r.q.head r.h) r.sends.body false
-          (ap (λ (s : LinkSide). s.look.taken) f.client)
-          (f.adds.outbox ∙ append-nil v.client.outbox) f.adds.head f.adds.mode (f.adds.cuts_are ∙ append-nil
-          v.sent.cuts.items) r.sends.text;
-      flows = r.sends.flows;
-    };
-  })
-
-  -- ---- a read of the origin
-
+  -- a read of the origin
   reads_side : (t : Bool) (c : List ℕ) (q : Request) (h : ResponseHead) (dialed : Bool) (o s : LinkSide)
       (p : Pulled) (place : Place) (read : List ℕ) → t ≡ true
       → SideReads t o s p → ReadsBody setup refuses q h c dialed o place read → ReadsBody setup refuses q h c
@@ -326,26 +190,6 @@ module _ (setup : Setup) (refuses : Type 0) where
         is_fed = r.is_fed;
       }
 
-  -- it is made before the chain's end was given
-  pub reads_on : {P : Type 0} (rest : P → List ℕ → List ℕ) (t : Bool) (v w : View) (p : Pulled)
-      (c : ChainState P) (place : Place) → t ≡ true → c.given ≡ false
-      → ReadsOrigin t v w p → RelaysBody setup refuses rest v c place → RelaysBody setup refuses rest w c
-      place
-  reads_on rest t v w p c place told going reads r =
-      subst (λ (x : View). RelaysBody setup refuses rest x c place) (sym reads.others)
-      (record {
-        q = r.q;
-        h = r.h;
-        read = r.read;
-        reads = reads_side t (all_of v.client.look) r.q r.h v.dialed v.origin w.origin p place r.read told
-            reads.origin r.reads;
-        gives_end = record {
-          ended = λ given. absurd (true≢false (sym given ∙ going));
-          goes_on = r.gives_end.goes_on;
-        };
-        sends = r.sends;
-      })
-
   -- where a step leads at which a stage was roused, or could not be
   pub leads_after : (goes : Type 0) (v : View) (r : Result ⊤ SetFault) → goes → EndFact setup refuses v
       E.NoMemory → LeadsBody setup refuses goes v (step_after r)
@@ -353,18 +197,7 @@ module _ (setup : Setup) (refuses : Type 0) where
   leads_after goes v (Err F.Dead) on lacks = lacks
   leads_after goes v _ on lacks = on
 
-  pub frames_step : {P : Type 0} (rest : P → List ℕ → List ℕ) (v w : View) (c d : ChainState P)
-      (place : Place) (piece : List ℕ) (n : ℕ) (r : Result ⊤ SetFault)
-      (step : BodyStep) → step ≡ step_after r → FramesPiece piece v w → IsPiece piece → TakesAway rest n c d
-      → piece ≡ take n (client_wait c)
-      → RelaysBody setup refuses rest v c place → LeadsBody setup refuses (RelaysBody setup refuses rest w d
-      place) w step
-  frames_step rest v w c d place piece n r step is f small takes same h =
-      let on = frames_on rest v w c d place piece n f small takes same h in
-      subst (LeadsBody setup refuses (RelaysBody setup refuses rest w d place) w) (sym is)
-      (leads_after (RelaysBody setup refuses rest w d place) w r on (relays_lacks rest w d place on))
-
-  -- ---- all of the body was given, and its end is framed
+  -- ---- the block of what came
 
   -- all bytes of the origin are a body in this state, where no more comes of one that is unfinished
   pub body_of : (q : Request) (h : ResponseHead) (c : List ℕ) (dialed : Bool) (o : LinkSide) (place : Place)
@@ -379,6 +212,15 @@ module _ (setup : Setup) (refuses : Type 0) where
       (place_body (framing_of q.head h) r.fed read place.held place.phase place.total r.is_fed.stands
       r.is_fed.counted r.is_fed.sound (o.inbox ++ o.look.left)
       (λ goes. none (sym is ∙ goes))))
+
+  -- those that were fed have the body that was read
+  fed_body : (q : Request) (h : ResponseHead) (c : List ℕ) (dialed : Bool) (o : LinkSide) (place : Place)
+      (read : List ℕ) (r : ReadsBody setup refuses q h c dialed o place read)
+      → BodyOf (framing_of q.head h) r.fed read (state_of place.phase)
+  fed_body q h c dialed o place read r =
+      subst (λ (f : List ℕ). BodyOf (framing_of q.head h) f read (state_of place.phase)) (append-nil r.fed)
+      (place_body (framing_of q.head h) r.fed read place.held place.phase place.total r.is_fed.stands
+      r.is_fed.counted r.is_fed.sound [] (λ goes. refl))
 
   -- where the body is over, they end with it
   over_ends : (q : Request) (h : ResponseHead) (c : List ℕ) (dialed : Bool) (o : LinkSide) (place : Place)
@@ -416,53 +258,369 @@ module _ (setup : Setup) (refuses : Type 0) where
             read r) r.good says,
       ))
 
-  pub ends_whole : {P : Type 0} (rest : P → List ℕ → List ℕ) (v w : View) (c : ChainState P) (place : Place)
-      → FramesEnd v w → c.given ≡ true → flow rest c [] ≡ []
-      → RelaysBody setup refuses rest v c place → IsFinishing setup refuses w E.Whole
-  ends_whole rest v w c place f given none r =
-      let reads : ReadsBody setup refuses r.q r.h (all_of w.client.look) w.dialed w.origin place r.read =
-      queued_reads (end_of v.sent.mode) [] v w r.q r.h place r.read f r.reads in
-      let over : IsBodyOver (framing_of r.q.head r.h) w.origin place =
-      subst (λ (o : LinkSide). IsBodyOver (framing_of r.q.head r.h) o place) (sym f.origin) (r.gives_end.ended
-      given) in
-      let text = text_ended v w (relayed_head setup r.q.head r.h) r.sends.body f r.sends.text in
-      let whole : r.sends.body ≡ compose_lines (body_lines setup r.q.head r.h) r.read =
-      sym (append-nil r.sends.body) ∙ ap (λ (x : List ℕ). r.sends.body ++ x) (sym none)
-      ∙ r.sends.flows [] (OnTrue_from c.given ([] ≡ []) (λ so. refl)) ∙ ap (compose_lines (body_lines setup
-      r.q.head r.h)) (append-nil r.read) in
-      let request = request_text setup r.q.head r.q.target r.q.host in
-      let block = relayed_block setup request r.q.head r.h E.Whole (compose_lines (body_lines setup r.q.head
-      r.h) r.read) in
-      record {
+  module _ {P L : Type 0} (stage : transform.Ghosts P L) (short : Option Short) where
+    abbrev Holds : View → ChainState P → Place → Type 0
+    Holds v c place = RelaysBody setup refuses stage v c place short
+
+    -- the chain may be dropped at any time
+    pub relays_relayed : (v : View) (c : ChainState P) (place : Place) (r : Holds v c place)
+        → Relayed setup refuses v c.given false r.sends.body
+    relays_relayed v c place r = record {
+      q = r.q;
+      h = r.h;
+      served = r.reads.served;
+      good = r.reads.good;
+      fed = r.reads.fed;
+      read = r.read;
+      place = place;
+      reads = r.reads.reads;
+      is_fed = r.reads.is_fed;
+      over = λ given. (r.gives_end.ended given).1;
+      mode = r.sends.mode;
+      text = r.sends.text;
+      front = front_by c.given (body_lines setup r.q.head r.h) r.read r.sends.body (flow stage.rest c)
+          r.sends.sends.flows;
+      whole = λ fin. absurd (false≢true fin);
+    }
+
+    pub relays_any : (v : View) (c : ChainState P) (place : Place) → Holds v c place → AnyEnd setup refuses v
+    relays_any v c place r = record {
+      took = facts.request r.q r.reads.served.goes r.reads.served.carries;
+      text = ends.relayed c.given false r.sends.body (relays_relayed v c place r);
+    }
+
+    pub relays_lacks : (v : View) (c : ChainState P) (place : Place) → Holds v c place
+        → EndFact setup refuses v E.NoMemory
+    relays_lacks v c place r = record { any = relays_any v c place r; by = tt }
+
+    -- ---- a write of what waits for the client
+
+    writes_side : (t : Bool) (v : View) (s : LinkSide) (p : Pushed) (c : ChainState P) (place : Place) → t ≡
+        true
+        → SideWrites t v.client s p → Holds v c place → Holds (record v { client = s }) c place
+    writes_side t v s p c place told writes r =
+        let takes = writes.pushes.told told in
+        record {
+          q = r.q;
+          h = r.h;
+          read = r.read;
+          reads = subst (λ (b : List ℕ). ReadsBody setup refuses r.q r.h b v.dialed v.origin place r.read)
+              (sym (all_took v.client.look s.look _ r.sends.some takes)) r.reads;
+          gives_end = r.gives_end;
+          sends = record {
+            count = write_count t v.client s p writes r.sends.count;
+            some = λ e. r.sends.some (sym takes.given ∙ e);
+            mode = r.sends.mode;
+            body = r.sends.body;
+            text = text_written t v.client s p v.sent (relayed_head setup r.q.head r.h) r.sends.body false
+                told
+                writes r.sends.text;
+            sends = r.sends.sends;
+          };
+        }
+
+    pub writes_on : (t : Bool) (v w : View) (p : Pushed) (c : ChainState P) (place : Place) → t ≡ true
+        → WritesClient t v w p → Holds v c place → Holds w c place
+    writes_on t v w p c place told writes r =
+        subst (λ (x : View). Holds x c place) (sym writes.others)
+        (writes_side t v w.client p c place told writes.client r)
+
+    pub writes_lacks : (t : Bool) (v w : View) (p : Pushed) (c : ChainState P) (place : Place) → t ≡ true
+        → WritesClient t v w p → Holds v c place → EndFact setup refuses w E.NoMemory
+    writes_lacks t v w p c place told writes r =
+        relays_lacks w c place (writes_on t v w p c place told writes r)
+
+    -- the client's link failed
+    pub writes_left : (t : Bool) (v w : View) (c : ChainState P) (place : Place) → t ≡ true
+        → WritesClient t v w V.Failed → Holds v c place → EndFact setup refuses w E.ClientFault
+    writes_left t v w c place told writes r = record {
+      any = relays_any w c place (writes_on t v w V.Failed c place told writes r);
+      by = write_failed t v.client w.client V.Failed refl writes.client r.sends.count;
+    }
+
+    -- ---- a text that is queued for the client
+
+    -- a piece of what the chain gave
+    frames_on : (v w : View) (c d : ChainState P) (place : Place) (piece : List ℕ) (n : ℕ) → FramesPiece piece
+        v w
+        → IsPiece piece → TakesAway stage.rest n c d → piece ≡ take n (client_wait c) → Holds v c place
+        → Holds w d place
+    frames_on v w c d place piece n f is takes same r = record {
+      q = r.q;
+      h = r.h;
+      read = r.read;
+      reads = queued_reads (frame_of v.sent.mode piece) (length piece ∷ []) v w r.q r.h place r.read f
+          r.reads;
+      gives_end = subst (λ (o : LinkSide). GivesEnd setup refuses r.q r.h o place d.given short) (sym
+          f.origin)
+          (subst (λ (b : Bool). GivesEnd setup refuses r.q r.h v.origin place b short) (sym takes.given)
+          r.gives_end);
+      sends = record {
         count = subst (λ (s : LinkSide). s.base ≤ s.look.faults) (sym f.client) r.sends.count;
         some = λ e. r.sends.some (sym (ap (λ (s : LinkSide). s.look.given) f.client) ∙ e);
-        took = facts.request r.q reads.served.goes reads.served.carries;
-        queues = record {
-          block = block;
-          is_block = relayed_is r.q r.h (all_of w.client.look) w.dialed w.origin place r.read block reads
-              (ended r.read (over_ends r.q r.h (all_of w.client.look) w.dialed w.origin place r.read reads
-              over) refl);
-          ends = refl;
-          took = took_request setup r.q w.origin reads.served.carries reads.served.no_waits;
-          mode = f.adds.mode ∙ r.sends.mode;
-          sent = r.sends.body;
-          text = text;
-          whole = λ fin. whole;
-          relayed = record {
-            q = r.q;
-            h = r.h;
-            served = reads.served;
-            good = reads.good;
-            fed = reads.fed;
-            read = r.read;
-            place = place;
-            reads = reads.reads;
-            is_fed = reads.is_fed;
-            over = λ done. over;
-            mode = f.adds.mode ∙ r.sends.mode;
-            text = text;
-            front = ([], append-nil r.sends.body ∙ whole);
-            whole = λ fin. (refl, whole);
+        mode = f.adds.mode ∙ r.sends.mode;
+        body = r.sends.body ++ piece;
+        text = text_framed v w (relayed_head setup r.q.head r.h) r.sends.body piece f is r.sends.text;
+        sends = sends_taken stage.rest stage.soon (body_lines setup r.q.head r.h) r.read r.sends.body piece n
+            c d
+            takes same r.sends.sends;
+      };
+    }
+
+    -- memory lacked for it
+    pub frames_lacks : (v w : View) (c : ChainState P) (place : Place) → QueuesNothing v w → Holds v c place
+        → EndFact setup refuses w E.NoMemory
+    frames_lacks v w c place f r = relays_lacks w c place (record {
+      q = r.q;
+      h = r.h;
+      read = r.read;
+      reads = queued_reads [] [] v w r.q r.h place r.read f r.reads;
+      gives_end = subst (λ (o : LinkSide). GivesEnd setup refuses r.q r.h o place c.given short) (sym
+          f.origin)
+          r.gives_end;
+      sends = record {
+        count = subst (λ (s : LinkSide). s.base ≤ s.look.faults) (sym f.client) r.sends.count;
+        some = λ e. r.sends.some (sym (ap (λ (s : LinkSide). s.look.given) f.client) ∙ e);
+        mode = f.adds.mode ∙ r.sends.mode;
+        body = r.sends.body;
+        text = text_as v.client w.client v.sent w.sent (relayed_head setup r.q.head r.h) r.sends.body false
+            (ap (λ (s : LinkSide). s.look.taken) f.client)
+            (f.adds.outbox ∙ append-nil v.client.outbox) f.adds.head f.adds.mode (f.adds.cuts_are ∙ append-nil
+            v.sent.cuts.items) r.sends.text;
+        sends = r.sends.sends;
+      };
+    })
+
+    pub frames_step : (v w : View) (c d : ChainState P) (place : Place) (piece : List ℕ) (n : ℕ)
+        (r : Result ⊤ SetFault) (step : BodyStep) → step ≡ step_after r → FramesPiece piece v w → IsPiece
+        piece
+        → TakesAway stage.rest n c d → piece ≡ take n (client_wait c) → Holds v c place
+        → LeadsBody setup refuses (Holds w d place) w step
+    frames_step v w c d place piece n r step is f small takes same h =
+        let on = frames_on v w c d place piece n f small takes same h in
+        subst (LeadsBody setup refuses (Holds w d place) w) (sym is)
+        (leads_after (Holds w d place) w r on (relays_lacks w d place on))
+
+    -- ---- a read of the origin
+
+    -- it is made before the chain's end was given
+    pub reads_on : (t : Bool) (v w : View) (p : Pulled) (c : ChainState P) (place : Place) → t ≡ true
+        → c.given ≡ false → short ≡ None → ReadsOrigin t v w p → Holds v c place → Holds w c place
+    reads_on t v w p c place told going comes reads r =
+        subst (λ (x : View). Holds x c place) (sym reads.others)
+        (record {
+          q = r.q;
+          h = r.h;
+          read = r.read;
+          reads = reads_side t (all_of v.client.look) r.q r.h v.dialed v.origin w.origin p place r.read told
+              reads.origin r.reads;
+          gives_end = record {
+            ended = λ given. absurd (true≢false (sym given ∙ going));
+            goes_on = λ still. subst (IsShort (framing_of r.q.head r.h) w.origin place) (sym comes)
+                (subst (IsShort (framing_of r.q.head r.h) v.origin place) comes (r.gives_end.goes_on still));
           };
-        };
-      }
+          sends = r.sends;
+        })
+
+    -- ---- the end is framed
+
+    -- What stands once the end is framed: the block, whose body was sent whole.
+    ends_block : (v w : View) (c : ChainState P) (place : Place) (f : FramesEnd v w) (r : Holds v c place)
+        (reads : ReadsBody setup refuses r.q r.h (all_of w.client.look) w.dialed w.origin place r.read)
+        (done : Bool) → (done ≡ true → IsBodyOver (framing_of r.q.head r.h) v.origin place)
+        → IsFrontThrough (body_lines setup r.q.head r.h) done r.read r.sends.body
+        → r.sends.body ≡ compose_lines (body_lines setup r.q.head r.h) r.read
+        → (done ≡ true) ⊎ (is_early (body_lines setup r.q.head r.h) r.read ≡ true)
+        → BodySays setup (request_text setup r.q.head r.q.target r.q.host) r.q.head r.h
+        ((reads.fed ++ w.origin.inbox) ++ w.origin.look.left)
+        (relayed_block setup (request_text setup r.q.head r.q.target r.q.host) r.q.head r.h E.Whole
+        (compose_lines (body_lines setup r.q.head r.h) r.read))
+        → IsFinishing setup refuses w E.Whole
+    ends_block v w c place f r reads done over front whole why says =
+        let text = text_ended v w (relayed_head setup r.q.head r.h) r.sends.body f r.sends.text in
+        let request = request_text setup r.q.head r.q.target r.q.host in
+        let block = relayed_block setup request r.q.head r.h E.Whole (compose_lines (body_lines setup r.q.head
+        r.h) r.read) in
+        record {
+          count = subst (λ (s : LinkSide). s.base ≤ s.look.faults) (sym f.client) r.sends.count;
+          some = λ e. r.sends.some (sym (ap (λ (s : LinkSide). s.look.given) f.client) ∙ e);
+          took = facts.request r.q reads.served.goes reads.served.carries;
+          queues = record {
+            queues = record {
+              block = block;
+              is_block = relayed_is r.q r.h (all_of w.client.look) w.dialed w.origin place r.read block reads
+                  says;
+              ends = refl;
+              took = took_request setup r.q w.origin reads.served.carries reads.served.no_waits;
+              mode = f.adds.mode ∙ r.sends.mode;
+              sent = r.sends.body;
+              text = text;
+            };
+            whole = whole;
+            done = done;
+            relayed = record {
+              q = r.q;
+              h = r.h;
+              served = reads.served;
+              good = reads.good;
+              fed = reads.fed;
+              read = r.read;
+              place = place;
+              reads = reads.reads;
+              is_fed = reads.is_fed;
+              over = λ so. subst (λ (o : LinkSide). IsBodyOver (framing_of r.q.head r.h) o place) (sym
+                  f.origin)
+                  (over so);
+              mode = f.adds.mode ∙ r.sends.mode;
+              text = text;
+              front = front;
+              whole = λ fin. (whole, why);
+            };
+          };
+        }
+
+    -- the body has ended
+    ends_over : (v w : View) (c : ChainState P) (place : Place) → FramesEnd v w → c.given ≡ true → IsFinished
+        c
+        → Holds v c place → IsFinishing setup refuses w E.Whole
+    ends_over v w c place f given ends r =
+        let over : IsBodyOver (framing_of r.q.head r.h) v.origin place = (r.gives_end.ended given).1 in
+        let none : flow stage.rest c [] ≡ [] =
+        flow-finished stage.rest c ends.0 ends.1 [] (OnTrue_from c.given ([] ≡ []) (λ so. refl)) in
+        let reads = queued_reads (end_of v.sent.mode) [] v w r.q r.h place r.read f r.reads in
+        let whole : r.sends.body ≡ compose_lines (body_lines setup r.q.head r.h) r.read =
+        sym (append-nil r.sends.body) ∙ ap (λ (x : List ℕ). r.sends.body ++ x) (sym none)
+        ∙ r.sends.sends.flows [] (OnTrue_from c.given ([] ≡ []) (λ so. refl))
+        ∙ ap (compose_lines (body_lines setup r.q.head r.h)) (append-nil r.read) in
+        ends_block v w c place f r reads true (λ so. over) ([], append-nil r.sends.body ∙ whole) whole (inl
+        refl)
+        (ended r.read (over_ends r.q r.h (all_of w.client.look) w.dialed w.origin place r.read reads
+        (subst (λ (o : LinkSide). IsBodyOver (framing_of r.q.head r.h) o place) (sym f.origin) over)) refl)
+
+    -- a line finished early
+    ends_early : (v w : View) (c : ChainState P) (place : Place) → FramesEnd v w → c.given ≡ false
+        → IsFinished c
+        → Holds v c place → IsFinishing setup refuses w E.Whole
+    ends_early v w c place f going ends r =
+        let lines = body_lines setup r.q.head r.h in
+        let done : FinishesEarly lines r.read r.sends.body =
+        finished_early stage.rest stage.soon lines r.read r.sends.body c going ends r.sends.sends in
+        let is : is_early lines r.read ≡ true =
+        ap (is_early lines) (sym (append-nil r.read)) ∙ done.early [] in
+        let whole : r.sends.body ≡ compose_lines lines r.read =
+        done.whole [] ∙ ap (compose_lines lines) (append-nil r.read) in
+        let reads = queued_reads (end_of v.sent.mode) [] v w r.q r.h place r.read f r.reads in
+        ends_block v w c place f r reads false (λ no. absurd (false≢true no))
+        (λ more. ([], append-nil r.sends.body ∙ done.whole more)) whole (inr is)
+        (early reads.fed (w.origin.inbox ++ w.origin.look.left) r.read (state_of place.phase)
+        (append_assoc reads.fed w.origin.inbox w.origin.look.left)
+        (fed_body r.q r.h (all_of w.client.look) w.dialed w.origin place r.read reads) is refl)
+
+    ends_by : (v w : View) (c : ChainState P) (place : Place) (given : Bool) → c.given ≡ given → FramesEnd v w
+        → IsFinished c → Holds v c place → IsFinishing setup refuses w E.Whole
+    ends_by v w c place true given f ends r = ends_over v w c place f given ends r
+    ends_by v w c place false going f ends r = ends_early v w c place f going ends r
+
+    -- the chain has given all, and its end is framed
+    pub ends_whole : (v w : View) (c : ChainState P) (place : Place) → FramesEnd v w → IsFinished c → Holds v
+        c place
+        → IsFinishing setup refuses w E.Whole
+    ends_whole v w c place f ends r = ends_by v w c place c.given refl f ends r
+
+    -- ---- no end is framed
+
+    abbrev short_relayed : (v : View) (c : ChainState P) (place : Place) (r : Holds v c place) → c.given ≡
+        false
+        → Relayed setup refuses v false false r.sends.body
+    short_relayed v c place r going = record {
+      q = r.q;
+      h = r.h;
+      served = r.reads.served;
+      good = r.reads.good;
+      fed = r.reads.fed;
+      read = r.read;
+      place = place;
+      reads = r.reads.reads;
+      is_fed = r.reads.is_fed;
+      over = λ done. absurd (false≢true done);
+      mode = r.sends.mode;
+      text = r.sends.text;
+      front = subst (λ (b : Bool). IsFrontThrough (body_lines setup r.q.head r.h) b r.read r.sends.body) going
+          (front_by c.given (body_lines setup r.q.head r.h) r.read r.sends.body (flow stage.rest c)
+          r.sends.sends.flows);
+      whole = λ fin. absurd (false≢true fin);
+    }
+
+    -- What was sent is what the lines had written so far of a body that stops short.
+    short_block : (v : View) (c : ChainState P) (place : Place) (end : TxnEnd) (r : Holds v c place)
+        → c.given ≡ false → r.sends.body ≡ soon_lines (body_lines setup r.q.head r.h) r.read
+        → StopsShort end (framing_of r.q.head r.h) ((r.reads.fed ++ v.origin.inbox) ++ v.origin.look.left)
+        r.read
+        → BodySays setup (request_text setup r.q.head r.q.target r.q.host) r.q.head r.h
+        ((r.reads.fed ++ v.origin.inbox) ++ v.origin.look.left)
+        (relayed_block setup (request_text setup r.q.head r.q.target r.q.host) r.q.head r.h end [])
+        → QueuesShort setup refuses v end
+    short_block v c place end r going so stops says =
+        let block = relayed_block setup (request_text setup r.q.head r.q.target r.q.host) r.q.head r.h end []
+        in
+        record {
+          queues = record {
+            block = block;
+            is_block = relayed_is r.q r.h (all_of v.client.look) v.dialed v.origin place r.read block r.reads
+                says;
+            ends = refl;
+            took = took_request setup r.q v.origin r.reads.served.carries r.reads.served.no_waits;
+            mode = r.sends.mode;
+            sent = r.sends.body;
+            text = r.sends.text;
+          };
+          relayed = short_relayed v c place r going;
+          soon = record {
+            rest = (r.reads.fed ++ v.origin.inbox) ++ v.origin.look.left;
+            reads = all_final r.q r.h (all_of v.client.look) v.dialed v.origin place r.read r.reads;
+            body = r.read;
+            stops = stops;
+            so = so;
+          };
+        }
+
+    -- why it does: it is cut, or it is bad
+    short_queues : (v : View) (c : ChainState P) (place : Place) (why : Short) (r : Holds v c place)
+        → c.given ≡ false → StaysShort (body_lines setup r.q.head r.h) r.read r.sends.body
+        → IsShort (framing_of r.q.head r.h) v.origin place (Some why) → QueuesFor setup refuses v (short_end
+        why)
+    short_queues v c place K.Cut r going stays is =
+        let cut_off : IsCutShort (framing_of r.q.head r.h) ((r.reads.fed ++ v.origin.inbox) ++
+        v.origin.look.left)
+        r.read = (
+          body_of r.q r.h (all_of v.client.look) v.dialed v.origin place r.read r.reads B.Unfinished is.0
+              (λ goes. ap (λ (x : List ℕ). x ++ v.origin.look.left) is.3 ∙ is.2),
+          is.1,
+        ) in
+        short_block v c place E.OriginCut r going stays.sent cut_off (cut r.read cut_off stays.goes refl)
+    short_queues v c place K.Bad r going stays is =
+        let broken = body_of r.q r.h (all_of v.client.look) v.dialed v.origin place r.read r.reads B.Bad is
+        (λ goes. absurd (let wrong : B.Bad ≡ B.Unfinished = goes in cc)) in
+        short_block v c place E.OriginBad r going stays.sent broken (bad r.read broken stays.goes refl)
+
+    short_going : (v : View) (c : ChainState P) (place : Place) (why : Short) (given : Bool) → c.given ≡ given
+        → short ≡ Some why → Holds v c place → c.given ≡ false
+    short_going v c place why false is stops r = is
+    short_going v c place why true is stops r = absurd (let wrong : ◌≡◌ {A = Option Short} (Some why) None =
+        sym stops ∙ (r.gives_end.ended is).0 in cc)
+
+    -- the chain rests, and nothing is framed any more
+    pub ends_short : (v : View) (c : ChainState P) (place : Place) (why : Short) → short ≡ Some why
+        → (c.given ≡ false → soon_flow stage.soon c [] ≡ Some []) → Holds v c place
+        → IsFinishing setup refuses v (short_end why)
+    ends_short v c place why stops rests r =
+        let going : c.given ≡ false = short_going v c place why c.given refl stops r in
+        record {
+          count = r.sends.count;
+          some = r.sends.some;
+          took = facts.request r.q r.reads.served.goes r.reads.served.carries;
+          queues = short_queues v c place why r going
+              (stays_short stage.rest stage.soon (body_lines setup r.q.head r.h) r.read r.sends.body c going
+              (rests going) r.sends.sends)
+              (subst (IsShort (framing_of r.q.head r.h) v.origin place) stops (r.gives_end.goes_on going));
+        }

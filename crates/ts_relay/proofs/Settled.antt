@@ -1,10 +1,11 @@
 -- A step's facts, said of what the origin's link refuses after it: what it refused before, and nothing else.
-use Rattle.std.proofs.Common.{inl, inr, ℕ, List, Bool, true, false, Result, Ok, Err}
+use Rattle.std.proofs.Common.{inl, inr, ℕ, List, Bool, true, false, Option, Result, Ok, Err}
 use Rattle.ts_config.specs.declared.setup.Setup.{Setup}
 use Rattle.ts_hooks.specs.declared.txn_end.TxnEnd.{TxnEnd}
 use Rattle.ts_hooks.specs.declared.txn_end.TxnEnd.TheVariants as E
 use Rattle.ts_link.specs.Link.{all_of}
 use Rattle.ts_transform.specs.Flow.{ChainState}
+use Rattle.ts_transform.specs.declared.transform.Transform as transform
 use Rattle.ts_wire.specs.Check.{check}
 use Rattle.ts_wire.specs.declared.heads.RequestHead.{RequestHead}
 use Rattle.ts_wire.specs.declared.heads.ResponseHead.{ResponseHead}
@@ -14,10 +15,11 @@ use Rattle.ts_phases.specs.View.{LinkSide, View}
 use Rattle.ts_phases.specs.Facts.{AwaitsFinal, OwnCause, OwnReady, OwnSends, Relays, Served, decided, fault}
 use Rattle.ts_phases.specs.Ends.{AnyEnd, EndFact, EndsBy, FaultText, HasBlock, Relayed, SomeText}
 use Rattle.ts_phases.specs.Ends as ends
-use Rattle.ts_relay.specs.Finishing.{IsFinishing, QueuesBlock, QueuesFor}
+use Rattle.ts_relay.specs.Finishing.{IsFinishing, QueuesBlock, QueuesFor, QueuesShort}
 use Rattle.ts_phases.specs.Holding.{PhaseFact}
 use Rattle.ts_relay.specs.Relaying.{ReadsBody, RelaysBody}
 use Rattle.ts_relay.specs.Entering.{EntersBody}
+use Rattle.ts_relay.specs.declared.relay.Short.{Short}
 use Rattle.ts_block.specs.declared.block.Block.{Block}
 use Rattle.ts_phases.specs.declared.phase.OwnAnswer.{OwnAnswer}
 use Rattle.ts_phases.specs.declared.phase.Phase.{Phase}
@@ -48,9 +50,10 @@ module _ (setup : Setup) (R S : Type 0) (from : S → R) where
     is_fed = r.is_fed;
   }
 
-  pub relaying : {P : Type 0} (rest : P → List ℕ → List ℕ) (v : View) (c : ChainState P) (place : Place)
-      → RelaysBody setup R rest v c place → RelaysBody setup S rest v c place
-  relaying rest v c place r = record {
+  pub relaying : {P L : Type 0} (stage : transform.Ghosts P L) (v : View) (c : ChainState P) (place : Place)
+      (short : Option Short) → RelaysBody setup R stage v c place short
+      → RelaysBody setup S stage v c place short
+  relaying stage v c place short r = record {
     q = r.q;
     h = r.h;
     read = r.read;
@@ -62,14 +65,14 @@ module _ (setup : Setup) (R S : Type 0) (from : S → R) where
       mode = r.sends.mode;
       body = r.sends.body;
       text = r.sends.text;
-      flows = r.sends.flows;
+      sends = r.sends.sends;
     };
   }
 
   -- its head is queued
-  pub entering : {P : Type 0} (rest : P → List ℕ → List ℕ) (v : View) (c : ChainState P) (place : Place)
-      → EntersBody setup R rest v c place → EntersBody setup S rest v c place
-  entering rest v c place e = record {
+  pub entering : {P L : Type 0} (stage : transform.Ghosts P L) (v : View) (c : ChainState P) (place : Place)
+      → EntersBody setup R stage v c place → EntersBody setup S stage v c place
+  entering stage v c place e = record {
     q = e.q;
     h = e.h;
     read = e.read;
@@ -81,7 +84,7 @@ module _ (setup : Setup) (R S : Type 0) (from : S → R) where
       mode = e.sends.mode;
       body = e.sends.body;
       text = e.sends.text;
-      flows = e.sends.flows;
+      sends = e.sends.sends;
     };
   }
 
@@ -148,7 +151,7 @@ module _ (setup : Setup) (R S : Type 0) (to : R → S) (from : S → R) where
     text = h.text;
   }
 
-  relayed : (v : View) (done fin : Bool) (sent : List ℕ) → Relayed setup R v done fin sent
+  abbrev relayed : (v : View) (done fin : Bool) (sent : List ℕ) → Relayed setup R v done fin sent
       → Relayed setup S v done fin sent
   relayed v done fin sent h = record {
     q = h.q;
@@ -190,6 +193,7 @@ module _ (setup : Setup) (R S : Type 0) (to : R → S) (from : S → R) where
   fault_text v (ends.cut_off done sent h) = ends.cut_off done sent (relayed v done false sent h)
 
   by_end : (v : View) (end : TxnEnd) → EndsBy setup R v end → EndsBy setup S v end
+  unfolding relayed
   by_end v E.Whole h = record { block = h.block; has = has_block v E.Whole h.block h.has; text = h.text }
   by_end v E.OriginCut h = record {
     block = h.block;
@@ -197,6 +201,7 @@ module _ (setup : Setup) (R S : Type 0) (to : R → S) (from : S → R) where
     sent = h.sent;
     text = h.text;
     relayed = relayed v false false h.sent h.relayed;
+    soon = h.soon;
   }
   by_end v E.OriginBad h = record {
     block = h.block;
@@ -204,6 +209,7 @@ module _ (setup : Setup) (R S : Type 0) (to : R → S) (from : S → R) where
     sent = h.sent;
     text = h.text;
     relayed = relayed v false false h.sent h.relayed;
+    soon = h.soon;
   }
   by_end v E.OriginFault h = record { failed = h.failed; no_waits = h.no_waits; text = fault_text v h.text }
   by_end v E.ClientFault h = h
@@ -214,7 +220,7 @@ module _ (setup : Setup) (R S : Type 0) (to : R → S) (from : S → R) where
 
   -- ---- the last of a body
 
-  queues_block : (v : View) (end : TxnEnd) (fin : Bool) → QueuesBlock setup R v end fin
+  abbrev queues_block : (v : View) (end : TxnEnd) (fin : Bool) → QueuesBlock setup R v end fin
       → QueuesBlock setup S v end fin
   queues_block v end fin h = record {
     block = h.block;
@@ -224,14 +230,26 @@ module _ (setup : Setup) (R S : Type 0) (to : R → S) (from : S → R) where
     mode = h.mode;
     sent = h.sent;
     text = h.text;
-    whole = h.whole;
-    relayed = relayed v fin fin h.sent h.relayed;
+  }
+
+  queues_short : (v : View) (end : TxnEnd) → QueuesShort setup R v end → QueuesShort setup S v end
+  unfolding queues_block relayed
+  queues_short v end h = record {
+    queues = queues_block v end false h.queues;
+    relayed = relayed v false false h.queues.sent h.relayed;
+    soon = h.soon;
   }
 
   queues_for : (v : View) (end : TxnEnd) → QueuesFor setup R v end → QueuesFor setup S v end
-  queues_for v E.Whole h = queues_block v E.Whole true h
-  queues_for v E.OriginCut h = queues_block v E.OriginCut false h
-  queues_for v E.OriginBad h = queues_block v E.OriginBad false h
+  unfolding queues_block
+  queues_for v E.Whole h = record {
+    queues = queues_block v E.Whole true h.queues;
+    whole = h.whole;
+    done = h.done;
+    relayed = relayed v h.done true h.queues.sent h.relayed;
+  }
+  queues_for v E.OriginCut h = queues_short v E.OriginCut h
+  queues_for v E.OriginBad h = queues_short v E.OriginBad h
   queues_for v E.OriginFault h = record {
     failed = h.failed;
     done = h.done;

@@ -1,113 +1,57 @@
--- A body that is read on: it goes on, is bad, is cut, or the origin's link fails.
-use Rattle.std.proofs.Common.{◌≡◌, ◌≢◌, ℕ, List, [], ◌++◌, Bool, true, false, refl, sym, ap, subst, ◌∙◌}
-use Rattle.std.proofs.Common.{append_assoc}
-use Rattle.std.proofs.lemmas.Bool.{OnTrue_from, false≢true, true≢false}
+-- A body that is read on: it goes on, or stops short of its end, or the origin's link fails.
+use Rattle.std.proofs.Common.{◌≡◌, ℕ, List, [], ◌++◌, Bool, true, false, refl, sym, ap, subst, ◌∙◌, Option}
+use Rattle.std.proofs.Common.{Some, None, append_assoc}
+use Rattle.std.proofs.lemmas.Bool.{true≢false}
 use Rattle.std.proofs.lemmas.List.{append-nil}
 use Rattle.ts_config.specs.declared.setup.Setup.{Setup}
-use Rattle.ts_config.specs.Bodies.{compose_lines}
-use Rattle.ts_hooks.specs.declared.txn_end.TxnEnd.{TxnEnd}
+use Rattle.ts_config.specs.declared.setup.TransformLine.{TransformLine}
 use Rattle.ts_hooks.specs.declared.txn_end.TxnEnd.TheVariants as E
 use Rattle.ts_link.specs.Link.{all_of}
-use Rattle.ts_transform.specs.Flow.{ChainState, flow}
-use Rattle.ts_vconn.specs.declared.moves.Pulled.TheVariants as L
+use Rattle.ts_transform.specs.Flow.{ChainState}
+use Rattle.ts_transform.specs.declared.transform.Transform as transform
+use Rattle.ts_vconn.specs.declared.moves.Pulled.TheVariants as U
 use Rattle.ts_wire.specs.declared.heads.ResponseHead.{ResponseHead}
 use Rattle.ts_wire.specs.declared.body.BodyState.{BodyState}
 use Rattle.ts_wire.specs.declared.body.BodyState.TheVariants as B
-use Rattle.ts_wire.specs.Body.{IsCutShort}
 use Rattle.ts_wire.specs.Place.{GoesOn, Place, state_of}
-use Rattle.ts_block.specs.Relayed.{framing_of, mode_of}
+use Rattle.ts_block.specs.Relayed.{framing_of}
 use Rattle.ts_block.specs.Heads.{FinalHead}
-use Rattle.ts_block.specs.Block.{BodySays, bad, body_lines, cut, framing_for, relayed_block, relayed_head}
-use Rattle.ts_block.specs.Block.{request_text}
-use Rattle.ts_phases.specs.View.{HasCount, LinkSide, View}
+use Rattle.ts_block.specs.Block.{body_lines}
+use Rattle.ts_phases.specs.View.{LinkSide, View}
 use Rattle.ts_phases.specs.RelayMoves.{ReadsOrigin}
 use Rattle.ts_phases.specs.Facts as facts
-use Rattle.ts_phases.specs.Ends.{EndFact, HasText, IsFrontThrough, Relayed}
+use Rattle.ts_phases.specs.Ends.{EndFact}
 use Rattle.ts_phases.specs.Ends as ends
-use Rattle.ts_relay.specs.Feeding.{DrainsOrigin, EndsHere, FeedsBody, FeedsTo, GetsPart, OnGoes}
-use Rattle.ts_relay.specs.Finishing.{IsFinishing, LeadsBody, QueuesBlock}
-use Rattle.ts_relay.specs.Relaying.{GivesEnd, ReadsBody, RelaysBody}
+use Rattle.ts_relay.specs.Feeding.{DrainsOrigin, EndsHere, FeedsBody, FeedsTo, GetsPart, OnGoes, short_if}
+use Rattle.ts_relay.specs.Finishing.{IsFinishing, LeadsBody}
+use Rattle.ts_relay.specs.Relaying.{GivesEnd, IsShort, ReadsBody, RelaysBody, Sends}
 use Rattle.ts_relay.specs.declared.last_writes.BodyStep.{BodyStep}
 use Rattle.ts_relay.specs.declared.last_writes.BodyStep.TheVariants as S
+use Rattle.ts_relay.specs.declared.relay.Relay.{Relay}
+use Rattle.ts_relay.specs.declared.relay.Short.{Short}
+use Rattle.ts_relay.specs.declared.relay.Short.TheVariants as K
 use Rattle.ts_phases.specs.declared.phase.Request.{Request}
 use Rattle.ts_phases.proofs.OneSide.{read_failed}
-use Rattle.ts_relay.proofs.Relaying.{body_of, flow_given, front_by, reads_on, relayed_is, relays_lacks}
-use Rattle.ts_relay.proofs.Relaying.{relays_relayed}
 use Rattle.ts_phases.proofs.Responding.{served_as}
-use Rattle.ts_phases.proofs.Uploading.{took_request}
+use Rattle.ts_relay.proofs.Early.{sends_closed, sends_given}
+use Rattle.ts_relay.proofs.Relaying.{reads_on, relays_lacks, relays_relayed}
+
+-- what was sent, once the chain got a part of the body
+gets_sends : {P L : Type 0} (stage : transform.Ghosts P L) (lines : List TransformLine) (read body part : List
+    ℕ)
+    (state : BodyState) (c d : ChainState P) → c.given ≡ false → GetsPart state part c d
+    → Sends stage.rest stage.soon lines read body c → Sends stage.rest stage.soon lines (read ++ part) body d
+gets_sends stage lines read body part B.Unfinished c d going gets s =
+    subst (Sends stage.rest stage.soon lines (read ++ part) body) (sym gets)
+    (sends_given stage.rest stage.soon lines read body part c c.given going s)
+gets_sends stage lines read body part B.Ended c d going gets s =
+    subst (Sends stage.rest stage.soon lines (read ++ part) body) (sym gets)
+    (sends_given stage.rest stage.soon lines read body part c true going s)
+gets_sends stage lines read body part B.Bad c d going gets s =
+    subst (Sends stage.rest stage.soon lines (read ++ part) body) (sym gets)
+    (sends_given stage.rest stage.soon lines read body part c c.given going s)
 
 module _ (setup : Setup) (refuses : Type 0) where
-  -- ---- a body that is not read on
-
-  -- What stands of a body that is not passed on any further, before it was over.
-  record Stops (v : View) (place : Place) : Type 0 where
-    q : Request
-    h : ResponseHead
-    read : List ℕ
-    reads : ReadsBody setup refuses q h (all_of v.client.look) v.dialed v.origin place read
-    count : HasCount v.client
-    some : v.client.look.given ≢ []
-    mode : v.sent.mode ≡ mode_of (framing_for setup q.head h)
-    body : List ℕ
-    text : HasText v.client v.sent (relayed_head setup q.head h) body false
-    front : IsFrontThrough (body_lines setup q.head h) false read body
-
-  -- so much of the body was passed on
-  stop_relayed : (v : View) (place : Place) (s : Stops v place) → Relayed setup refuses v false false s.body
-  stop_relayed v place s = record {
-    q = s.q;
-    h = s.h;
-    served = s.reads.served;
-    good = s.reads.good;
-    fed = s.reads.fed;
-    read = s.read;
-    place = place;
-    reads = s.reads.reads;
-    is_fed = s.reads.is_fed;
-    over = λ done. absurd (false≢true done);
-    mode = s.mode;
-    text = s.text;
-    front = s.front;
-    whole = λ fin. absurd (false≢true fin);
-  }
-
-  -- with a block of that end, which has no body
-  stop_block : (v : View) (place : Place) (s : Stops v place) (end : TxnEnd)
-      → BodySays setup (request_text setup s.q.head s.q.target s.q.host) s.q.head s.h
-      ((s.reads.fed ++ v.origin.inbox) ++ v.origin.look.left)
-      (relayed_block setup (request_text setup s.q.head s.q.target s.q.host) s.q.head s.h end [])
-      → QueuesBlock setup refuses v end false
-  stop_block v place s end says =
-      let block = relayed_block setup (request_text setup s.q.head s.q.target s.q.host) s.q.head s.h end [] in
-      record {
-        block = block;
-        is_block = relayed_is setup refuses s.q s.h (all_of v.client.look) v.dialed v.origin place s.read
-            block s.reads says;
-        ends = refl;
-        took = took_request setup s.q v.origin s.reads.served.carries s.reads.served.no_waits;
-        mode = s.mode;
-        sent = s.body;
-        text = s.text;
-        whole = λ fin. absurd (false≢true fin);
-        relayed = stop_relayed v place s;
-      }
-
-  abbrev stops_of : {P : Type 0} (rest : P → List ℕ → List ℕ) (v : View) (c : ChainState P) (place : Place)
-      → c.given ≡ false → RelaysBody setup refuses rest v c place → Stops v place
-  stops_of rest v c place going r = record {
-    q = r.q;
-    h = r.h;
-    read = r.read;
-    reads = r.reads;
-    count = r.sends.count;
-    some = r.sends.some;
-    mode = r.sends.mode;
-    body = r.sends.body;
-    text = r.sends.text;
-    front = subst (λ (b : Bool). IsFrontThrough (body_lines setup r.q.head r.h) b r.read r.sends.body) going
-        (front_by c.given (body_lines setup r.q.head r.h) r.read r.sends.body (flow rest c) r.sends.flows);
-  }
-
   -- ---- the reader is fed
 
   -- of the origin's bytes a front was used
@@ -125,213 +69,173 @@ module _ (setup : Setup) (refuses : Type 0) where
     is_fed = goes (framing_of q.head h) r.fed read r.is_fed;
   }
 
-  -- while the end was not given, the flow is known for whatever comes
-  flows_all : {P : Type 0} (rest : P → List ℕ → List ℕ) (v : View) (c : ChainState P) (place : Place)
-      (r : RelaysBody setup refuses rest v c place) → c.given ≡ false
-      → (z : List ℕ) → r.sends.body ++ flow rest c z ≡ compose_lines (body_lines setup r.q.head r.h)
-      (r.read ++ z)
-  flows_all rest v c place r going z =
-      r.sends.flows z (OnTrue_from c.given (z ≡ []) (λ given. absurd (true≢false (sym given ∙ going))))
-
-  flows_fed : {P : Type 0} (rest : P → List ℕ → List ℕ) (v : View) (c : ChainState P) (place : Place)
-      (r : RelaysBody setup refuses rest v c place) → c.given ≡ false
-      → (part z : List ℕ) → r.sends.body ++ flow rest c (part ++ z) ≡ compose_lines (body_lines setup r.q.head
-      r.h) ((r.read ++ part) ++ z)
-  flows_fed rest v c place r going part z =
-      flows_all rest v c place r going (part ++ z) ∙ ap (compose_lines (body_lines setup r.q.head r.h))
-      (sym (append_assoc r.read part z))
-
-  -- the part comes to the front of what still flows
-  gets_flow : {P : Type 0} (rest : P → List ℕ → List ℕ) (state : BodyState) (part : List ℕ) (c d : ChainState
-      P) → GetsPart state part c d → state ≢ B.Bad
-      → (z : List ℕ) → flow rest d z ≡ flow rest c (part ++ z)
-  gets_flow rest B.Unfinished part c d gets good z = ap (λ k. flow rest k z) gets ∙ flow_given rest c part
-      c.given z
-  gets_flow rest B.Ended part c d gets good z = ap (λ k. flow rest k z) gets ∙ flow_given rest c part true z
-  gets_flow rest B.Bad part c d gets good z = absurd (good refl)
-
-  -- the chain's input ends where the body does
+  -- the chain's input ends where the body does, and a bad body stops short
   gets_end : {P : Type 0} (q : Request) (h : ResponseHead) (o : LinkSide) (place : Place) (state : BodyState)
-      (part : List ℕ) (c d : ChainState P) → state_of place.phase ≡ state
-      → c.given ≡ false → GetsPart state part c d → state ≢ B.Bad → GivesEnd setup refuses q h o place d.given
-  gets_end q h o place B.Unfinished part c d is going gets good = record {
+      (part : List ℕ) (c d : ChainState P) (short : Option Short) → state_of place.phase ≡ state
+      → c.given ≡ false → short ≡ None → GetsPart state part c d
+      → GivesEnd setup refuses q h o place d.given (short_if state short)
+  gets_end q h o place B.Unfinished part c d short is going comes gets = record {
+    ended = λ given. absurd (true≢false (sym given ∙ ap (λ k. k.given) gets ∙ going));
+    goes_on = λ still. subst (IsShort (framing_of q.head h) o place) (sym comes) is;
+  }
+  gets_end q h o place B.Ended part c d short is going comes gets = record {
+    ended = λ given. (comes, ends.told is);
+    goes_on = λ still. absurd (true≢false (sym (ap (λ k. k.given) gets) ∙ still));
+  }
+  gets_end q h o place B.Bad part c d short is going comes gets = record {
     ended = λ given. absurd (true≢false (sym given ∙ ap (λ k. k.given) gets ∙ going));
     goes_on = λ still. is;
   }
-  gets_end q h o place B.Ended part c d is going gets good = record {
-    ended = λ given. ends.told is;
-    goes_on = λ still. absurd (true≢false (sym (ap (λ k. k.given) gets) ∙ still));
-  }
-  gets_end q h o place B.Bad part c d is going gets good = absurd (good refl)
 
-  feeds_on : {P : Type 0} (rest : P → List ℕ → List ℕ) (v w : View) (c d : ChainState P) (place next : Place)
-      → c.given ≡ false → DrainsOrigin v w
-      → FeedsBody place next v.origin.inbox w.origin.inbox c d → state_of next.phase ≢ B.Bad
-      → RelaysBody setup refuses rest v c place → RelaysBody setup refuses rest w d next
-  feeds_on rest v w c d place next going drains fed good r =
-      subst (λ (x : View). RelaysBody setup refuses rest x d next) (sym drains)
-      (record {
-        q = r.q;
-        h = r.h;
-        read = r.read ++ fed.part;
-        reads = drained r.q r.h (all_of v.client.look) v.dialed v.origin w.origin.inbox fed.piece fed.part
-            place next r.read fed.taken fed.goes r.reads;
-        gives_end = gets_end r.q r.h (record v.origin { inbox = w.origin.inbox }) next (state_of next.phase)
-            fed.part c d refl going fed.gets good;
-        sends = record {
-          count = r.sends.count;
-          some = r.sends.some;
-          mode = r.sends.mode;
-          body = r.sends.body;
-          text = r.sends.text;
-          flows = λ z last. ap (λ (x : List ℕ). r.sends.body ++ x) (gets_flow rest (state_of next.phase)
-              fed.part c d fed.gets good z)
-              ∙ flows_fed rest v c place r going fed.part z;
-        };
-      })
-
-  -- the body is bad
-  feeds_bad : {P : Type 0} (rest : P → List ℕ → List ℕ) (v w : View) (c d : ChainState P) (place next : Place)
-      → c.given ≡ false → DrainsOrigin v w
-      → FeedsBody place next v.origin.inbox w.origin.inbox c d → state_of next.phase ≡ B.Bad
-      → RelaysBody setup refuses rest v c place → IsFinishing setup refuses w E.OriginBad
-  feeds_bad rest v w c d place next going drains fed is r =
-      subst (λ (x : View). IsFinishing setup refuses x E.OriginBad) (sym drains)
-      (let o : LinkSide = record v.origin { inbox = w.origin.inbox } in
-      let x : View = record v { origin = o } in
-      let reads = drained r.q r.h (all_of v.client.look) v.dialed v.origin w.origin.inbox fed.piece fed.part
-      place next r.read fed.taken fed.goes r.reads in
-      let stops : Stops x next = record {
-        q = r.q;
-        h = r.h;
-        read = r.read ++ fed.part;
-        reads = reads;
-        count = r.sends.count;
-        some = r.sends.some;
-        mode = r.sends.mode;
-        body = r.sends.body;
-        text = r.sends.text;
-        front = λ more. (flow rest c (fed.part ++ more), flows_fed rest v c place r going fed.part more);
-      } in
-      record {
-        count = r.sends.count;
-        some = r.sends.some;
-        took = facts.request r.q reads.served.goes reads.served.carries;
-        queues = stop_block x next stops E.OriginBad (bad (r.read ++ fed.part) (body_of setup refuses r.q r.h
-            (all_of v.client.look) v.dialed o next (r.read ++ fed.part) reads B.Bad is (λ goes. absurd
-            (let wrong : B.Bad ≡ B.Unfinished = goes in cc))) refl);
-      })
-
-  -- memory lacked for it
-  feeds_lacks : {P : Type 0} (rest : P → List ℕ → List ℕ) (v w : View) (c : ChainState P) (place : Place)
-      → DrainsOrigin v w → w.origin.inbox ≡ v.origin.inbox
-      → RelaysBody setup refuses rest v c place → EndFact setup refuses w E.NoMemory
-  feeds_lacks rest v w c place drains same r =
-      subst (λ (x : View). EndFact setup refuses x E.NoMemory)
-      (sym (drains ∙ ap (λ (i : List ℕ). record v { origin = record v.origin { inbox = i } }) same))
-      (relays_lacks setup refuses rest v c place r)
-
-  -- where feeding leads
-  pub feeds_lead : {P : Type 0} (rest : P → List ℕ → List ℕ) (v w : View) (c d : ChainState P)
-      (place next : Place) (step : BodyStep) → c.given ≡ false → DrainsOrigin v w
-      → FeedsTo step place next v.origin.inbox w.origin.inbox c d → RelaysBody setup refuses rest v c place
-      → LeadsBody setup refuses (RelaysBody setup refuses rest w d next) w step
-  feeds_lead rest v w c d place next S.Goes going drains (fed, good) r = feeds_on rest v w c d place next
-      going drains fed good r
-  feeds_lead rest v w c d place next S.Waits going drains feeds r = absurd feeds
-  feeds_lead rest v w c d place next (S.Finishes end) going drains (fed, state, is) r =
-      subst (IsFinishing setup refuses w) (sym is) (feeds_bad rest v w c d place next going drains fed state
-      r)
-  feeds_lead rest v w c d place next (S.Closes end) going drains feeds r = absurd feeds
-  feeds_lead rest v w c d place next S.Lacks going drains same r = feeds_lacks rest v w c place drains same r
-
-  -- ---- the origin is read
-
-  module _ {P : Type 0} (rest : P → List ℕ → List ℕ) (t : Bool) (v w : View) (c : ChainState P)
-      (place : Place) (told : t ≡ true) (going : c.given ≡ false)
-      (r : RelaysBody setup refuses rest v c place) where
-    -- its link failed
-    pub reads_failed : ReadsOrigin t v w L.Failed → IsFinishing setup refuses w E.OriginFault
-    reads_failed reads =
-        let on = reads_on setup refuses rest t v w L.Failed c place told going reads r in
-        record {
-          count = on.sends.count;
-          some = on.sends.some;
-          took = facts.request on.q on.reads.served.goes on.reads.served.carries;
-          queues = record {
-            failed = read_failed t v.origin w.origin L.Failed refl reads.origin r.reads.served.count;
-            done = c.given;
-            sent = on.sends.body;
-            relayed = relays_relayed setup refuses rest w c place on;
-          };
-        }
-
-    none_held : (reads : ReadsOrigin t v w L.End) → v.origin.inbox ≡ [] → w.origin.inbox ≡ []
-    none_held reads none = reads.origin.pulls.grows ∙ ap (λ (m : List ℕ). v.origin.inbox ++ m)
-        reads.origin.pulls.pulls.came ∙ append-nil v.origin.inbox ∙ none
-
-    -- it ended before the body
-    pub reads_cut : ReadsOrigin t v w L.End → v.origin.inbox ≡ [] → (over : Bool) → EndsHere over place
-        → over ≡ false → IsFinishing setup refuses w E.OriginCut
-    reads_cut reads none over here short_of =
-        let on = reads_on setup refuses rest t v w L.End c place told going reads r in
-        let short = here.cuts short_of (framing_of on.q.head on.h) on.reads.fed on.read (on.gives_end.goes_on
-        going) on.reads.is_fed in
-        let all : (on.reads.fed ++ w.origin.inbox) ++ w.origin.look.left ≡ on.reads.fed =
-        ap (λ (l : List ℕ). (on.reads.fed ++ w.origin.inbox) ++ l) (reads.origin.pulls.pulls.ends told)
-        ∙ append-nil (on.reads.fed ++ w.origin.inbox)
-        ∙ ap (λ (i : List ℕ). on.reads.fed ++ i) (none_held reads none) ∙ append-nil on.reads.fed in
-        record {
-          count = on.sends.count;
-          some = on.sends.some;
-          took = facts.request on.q on.reads.served.goes on.reads.served.carries;
-          queues = stop_block w place (stops_of rest w c place going on) E.OriginCut
-              (cut on.read (subst (λ (x : List ℕ). IsCutShort (framing_of on.q.head on.h) x on.read) (sym all)
-              short) refl);
-        }
-
-    -- the body goes up to its end
-    reads_closed : (d : ChainState P) → ReadsOrigin t v w L.End → v.origin.inbox ≡ [] → (over : Bool)
-        → EndsHere over place → over ≡ true → d ≡ record c { given = true }
-        → RelaysBody setup refuses rest w d place
-    reads_closed d reads none over here so same =
-        let on = reads_on setup refuses rest t v w L.End c place told going reads r in
-        let closes = here.closes so (framing_of on.q.head on.h) on.reads.fed on.read (on.gives_end.goes_on
-        going) on.reads.is_fed in
-        subst (λ (k : ChainState P). RelaysBody setup refuses rest w k place) (sym same)
+  module _ {P L : Type 0} (stage : transform.Ghosts P L) where
+    feeds_on : (v w : View) (r s : Relay P) → r.driven.chain.given ≡ false → r.short ≡ None → DrainsOrigin v w
+        → FeedsBody r s v.origin.inbox w.origin.inbox
+        → RelaysBody setup refuses stage v r.driven.chain r.body r.short
+        → RelaysBody setup refuses stage w s.driven.chain s.body s.short
+    feeds_on v w r s going comes drains fed h =
+        subst (λ (x : View). RelaysBody setup refuses stage x s.driven.chain s.body s.short) (sym drains)
+        (subst (RelaysBody setup refuses stage (record v {
+          origin = record v.origin { inbox = w.origin.inbox };
+        })
+        s.driven.chain s.body) (sym fed.short)
         (record {
-          q = on.q;
-          h = on.h;
-          read = on.read;
-          reads = on.reads;
-          gives_end = record {
-            ended = λ given. ends.closed closes (on.gives_end.goes_on going) (reads.origin.pulls.pulls.ends
-                told) (none_held reads none);
-            goes_on = λ still. absurd (true≢false still);
-          };
+          q = h.q;
+          h = h.h;
+          read = h.read ++ fed.part;
+          reads = drained h.q h.h (all_of v.client.look) v.dialed v.origin w.origin.inbox fed.piece fed.part
+              r.body s.body h.read fed.taken fed.goes h.reads;
+          gives_end = gets_end h.q h.h (record v.origin { inbox = w.origin.inbox }) s.body
+              (state_of s.body.phase) fed.part r.driven.chain s.driven.chain r.short refl going comes
+              fed.gets;
           sends = record {
+            count = h.sends.count;
+            some = h.sends.some;
+            mode = h.sends.mode;
+            body = h.sends.body;
+            text = h.sends.text;
+            sends = gets_sends stage (body_lines setup h.q.head h.h) h.read h.sends.body fed.part
+                (state_of s.body.phase) r.driven.chain s.driven.chain going fed.gets h.sends.sends;
+          };
+        }))
+
+    -- memory lacked for it
+    feeds_lacks : (v w : View) (r : Relay P) → DrainsOrigin v w → w.origin.inbox ≡ v.origin.inbox
+        → RelaysBody setup refuses stage v r.driven.chain r.body r.short → EndFact setup refuses w E.NoMemory
+    feeds_lacks v w r drains same h =
+        subst (λ (x : View). EndFact setup refuses x E.NoMemory)
+        (sym (drains ∙ ap (λ (i : List ℕ). record v { origin = record v.origin { inbox = i } }) same))
+        (relays_lacks setup refuses stage r.short v r.driven.chain r.body h)
+
+    -- where feeding leads
+    pub feeds_lead : (v w : View) (r s : Relay P) (step : BodyStep) → r.driven.chain.given ≡ false
+        → r.short ≡ None → DrainsOrigin v w → FeedsTo step r s v.origin.inbox w.origin.inbox
+        → RelaysBody setup refuses stage v r.driven.chain r.body r.short
+        → LeadsBody setup refuses (RelaysBody setup refuses stage w s.driven.chain s.body s.short) w step
+    feeds_lead v w r s S.Goes going comes drains fed h = feeds_on v w r s going comes drains fed h
+    feeds_lead v w r s S.Lacks going comes drains same h = feeds_lacks v w r drains same.0 h
+    feeds_lead v w r s _ going comes drains feeds h = absurd feeds
+
+    -- ---- the origin is read
+
+    module _ (t : Bool) (v w : View) (c : ChainState P) (place : Place) (short : Option Short)
+        (told : t ≡ true) (going : c.given ≡ false) (comes : short ≡ None)
+        (r : RelaysBody setup refuses stage v c place short) where
+      -- its link failed
+      pub reads_failed : ReadsOrigin t v w U.Failed → IsFinishing setup refuses w E.OriginFault
+      reads_failed reads =
+          let on = reads_on setup refuses stage short t v w U.Failed c place told going comes reads r in
+          record {
             count = on.sends.count;
             some = on.sends.some;
-            mode = on.sends.mode;
-            body = on.sends.body;
-            text = on.sends.text;
-            flows = λ z last. flows_all rest w c place on going z;
-          };
-        })
+            took = facts.request on.q on.reads.served.goes on.reads.served.carries;
+            queues = record {
+              failed = read_failed t v.origin w.origin U.Failed refl reads.origin r.reads.served.count;
+              done = c.given;
+              sent = on.sends.body;
+              relayed = relays_relayed setup refuses stage short w c place on;
+            };
+          }
 
-    pub closes_lead : (d : ChainState P) (step : BodyStep) → ReadsOrigin t v w L.End → v.origin.inbox ≡ []
-        → (over : Bool) → EndsHere over place → over ≡ true
-        → OnGoes step (d ≡ record c { given = true }) → LeadsBody setup refuses (RelaysBody setup refuses rest
-        w d place) w step
-    closes_lead d S.Goes reads none over here so gets = reads_closed d reads none over here so gets
-    closes_lead d S.Lacks reads none over here so gets =
-        relays_lacks setup refuses rest w c place (reads_on setup refuses rest t v w L.End c place told going
-        reads r)
-    closes_lead d _ reads none over here so gets = absurd gets
+      none_held : (reads : ReadsOrigin t v w U.End) → v.origin.inbox ≡ [] → w.origin.inbox ≡ []
+      none_held reads none = reads.origin.pulls.grows ∙ ap (λ (m : List ℕ). v.origin.inbox ++ m)
+          reads.origin.pulls.pulls.came ∙ append-nil v.origin.inbox ∙ none
 
-  -- memory lacked for a read
-  pub unread_lacks : {P : Type 0} (rest : P → List ℕ → List ℕ) (v w : View) (c : ChainState P) (place : Place)
-      → w ≡ v → RelaysBody setup refuses rest v c place
-      → EndFact setup refuses w E.NoMemory
-  unread_lacks rest v w c place same r = subst (λ (x : View). EndFact setup refuses x E.NoMemory) (sym same)
-      (relays_lacks setup refuses rest v c place r)
+      unfinished : (on : RelaysBody setup refuses stage w c place short) → state_of place.phase ≡ B.Unfinished
+      unfinished on = subst (IsShort (framing_of on.q.head on.h) w.origin place) comes (on.gives_end.goes_on
+          going)
+
+      -- it ended before the body
+      pub reads_cut : ReadsOrigin t v w U.End → v.origin.inbox ≡ [] → (over : Bool) → EndsHere over place
+          → over ≡ false → RelaysBody setup refuses stage w c place (Some K.Cut)
+      reads_cut reads none over here short_of =
+          let on = reads_on setup refuses stage short t v w U.End c place told going comes reads r in
+          let cut_off = here.cuts short_of (framing_of on.q.head on.h) on.reads.fed on.read (unfinished on)
+          on.reads.is_fed in
+          record {
+            q = on.q;
+            h = on.h;
+            read = on.read;
+            reads = on.reads;
+            gives_end = record {
+              ended = λ given. absurd (true≢false (sym given ∙ going));
+              goes_on = λ still. (
+                unfinished on,
+                cut_off.1,
+                reads.origin.pulls.pulls.ends told,
+                none_held reads none,
+              );
+            };
+            sends = on.sends;
+          }
+
+      -- the body goes up to its end
+      reads_closed : (d : ChainState P) → ReadsOrigin t v w U.End → v.origin.inbox ≡ [] → (over : Bool)
+          → EndsHere over place → over ≡ true → d ≡ record c { given = true }
+          → RelaysBody setup refuses stage w d place short
+      reads_closed d reads none over here so same =
+          let on = reads_on setup refuses stage short t v w U.End c place told going comes reads r in
+          let closes = here.closes so (framing_of on.q.head on.h) on.reads.fed on.read (unfinished on)
+          on.reads.is_fed in
+          subst (λ (k : ChainState P). RelaysBody setup refuses stage w k place short) (sym same)
+          (record {
+            q = on.q;
+            h = on.h;
+            read = on.read;
+            reads = on.reads;
+            gives_end = record {
+              ended = λ given. (
+                comes,
+                ends.closed closes (unfinished on) (reads.origin.pulls.pulls.ends told)
+                    (none_held reads none),
+              );
+              goes_on = λ still. absurd (true≢false still);
+            };
+            sends = record {
+              count = on.sends.count;
+              some = on.sends.some;
+              mode = on.sends.mode;
+              body = on.sends.body;
+              text = on.sends.text;
+              sends = sends_closed stage.rest stage.soon (body_lines setup on.q.head on.h) on.read
+                  on.sends.body c
+                  going on.sends.sends;
+            };
+          })
+
+      pub closes_lead : (d : ChainState P) (step : BodyStep) → ReadsOrigin t v w U.End → v.origin.inbox ≡ []
+          → (over : Bool) → EndsHere over place → over ≡ true
+          → OnGoes step (d ≡ record c { given = true })
+          → LeadsBody setup refuses (RelaysBody setup refuses stage w d place short) w step
+      closes_lead d S.Goes reads none over here so gets = reads_closed d reads none over here so gets
+      closes_lead d S.Lacks reads none over here so gets =
+          relays_lacks setup refuses stage short w c place (reads_on setup refuses stage short t v w U.End c
+          place
+          told going comes reads r)
+      closes_lead d _ reads none over here so gets = absurd gets
+
+    -- memory lacked for a read
+    pub unread_lacks : (v w : View) (c : ChainState P) (place : Place) (short : Option Short) → w ≡ v
+        → RelaysBody setup refuses stage v c place short → EndFact setup refuses w E.NoMemory
+    unread_lacks v w c place short same r = subst (λ (x : View). EndFact setup refuses x E.NoMemory) (sym
+        same)
+        (relays_lacks setup refuses stage short v c place r)

@@ -3,6 +3,7 @@
 -- origin is read on only while more may be given to the chain and there is room; and an end of the body
 -- waits only for its link (RFC 9112, sections 6.3 and 8; Developer's Guide, "Transformations").
 use Rattle.std.specs.Prelude.{◌≡◌, ℕ, ◌+◌, ◌<◌, ◌≤◌, ◌⊎◌, ◌++◌, List, [], length, Bool, true, false, Option}
+use Rattle.std.specs.Prelude.{Some}
 use Rattle.ts_hooks.specs.declared.txn_end.TxnEnd.{TxnEnd}
 use Rattle.ts_hooks.specs.declared.txn_end.TxnEnd.TheVariants as E
 use Rattle.ts_journal.specs.declared.entry.Pending.{Pending}
@@ -10,11 +11,11 @@ use Rattle.ts_group.specs.declared.action.Named.{Named}
 use Rattle.ts_group.specs.Context.{Context}
 use Rattle.ts_link.specs.Link.{Calls}
 use Rattle.ts_transform.specs.Driving.{AreNamed, IsNamedIf, IsRousingOf, SetsOnly}
-use Rattle.ts_transform.specs.Flow.{ChainState, MustRead}
+use Rattle.ts_transform.specs.Flow.{ChainState}
 use Rattle.ts_transform.specs.Stage.{MOST_WAITING}
 use Rattle.ts_transform.specs.declared.continuation.StageContinuation.{StageContinuation}
 use Rattle.ts_vconn.specs.declared.moves.TheConstants.{MOST_PULLED}
-use Rattle.ts_relay.specs.Duties.{UnlessLacking}
+use Rattle.ts_relay.specs.Duties.{MustReadOn, UnlessLacking}
 use Rattle.ts_phases.specs.Ends.{IsFrontOf}
 use Rattle.ts_relay.specs.Relaying.{IsOfRoleFrom}
 use Rattle.ts_phases.specs.View.{LinkSide, View}
@@ -23,6 +24,7 @@ use Rattle.ts_relay.specs.declared.relay.TheConstants.{MAIN, FIRST, READER}
 use Rattle.ts_relay.specs.declared.last_writes.BodyStep.{BodyStep}
 use Rattle.ts_relay.specs.declared.last_writes.BodyStep.TheVariants as S
 use Rattle.ts_relay.specs.declared.relay.Relay.{Relay}
+use Rattle.ts_relay.specs.declared.relay.Short.{Short}
 
 -- the transaction closes for a fault of the client's link, or what waits is still written behind one
 abbrev pub is_client_fault : BodyStep → Bool
@@ -68,29 +70,30 @@ pub record KeepsQueued (tells : Bool) (v w : View) : Type 0 where
       (w.client.look.taken ++ w.client.outbox)
 
 -- What a step of a body does with the links, each of which may have made it wait: a link's count of faults
--- rises exactly where the step leads to the end for that; the origin is read on only where more may be
--- given to the chain, and more is queued for the client only where nothing waits for it; so little is held.
-pub record MindsBody {P : Type 0} (ctells otells : Bool) (v w : View) (c d : ChainState P) (step : BodyStep)
+-- rises exactly where the step leads to the end for that; the origin is read on only where more of the body
+-- may come and be given to the chain, and more is queued for the client only where nothing waits for it; so
+-- little is held.
+pub record MindsBody {P : Type 0} (ctells otells : Bool) (v w : View) (r s : Relay P) (step : BodyStep)
     (client_late origin_late : Bool) : Type 0 where
   pub client : Calls v.client.look w.client.look (is_client_fault step) client_late
   pub origin : Calls v.origin.look w.origin.look (is_origin_fault step) origin_late
-  pub reads : (w.origin ≡ v.origin) ⊎ MustRead c
+  pub reads : (w.origin ≡ v.origin) ⊎ MustReadOn r
   pub unread : IsUnread ctells v.client w.client
   pub unwritten : IsUnwritten otells v.origin w.origin
   pub queued : KeepsQueued ctells v w
   pub queues : (length w.client.outbox ≤ length v.client.outbox) ⊎ (v.client.outbox ≡ [])
-  pub holds : UnlessLacking step (HoldsLittle v c → HoldsLittle w d)
+  pub holds : UnlessLacking step (HoldsLittle v r.driven.chain → HoldsLittle w s.driven.chain)
 
 -- What a step of the writer does with the links: nothing with the origin's.
-pub record WritesLinks {P : Type 0} (ctells otells : Bool) (v w : View) (c d : ChainState P)
+pub record WritesLinks {P : Type 0} (ctells otells : Bool) (v w : View) (r s : Relay P)
     (step : BodyStep) : Type 0 where
-  pub minds : MindsBody ctells otells v w c d step (is_late step) false
+  pub minds : MindsBody ctells otells v w r s step (is_late step) false
   pub origin : w.origin ≡ v.origin
 
 -- And one of the reader: nothing with the client's.
-pub record ReadsLinks {P : Type 0} (ctells otells : Bool) (v w : View) (c d : ChainState P)
+pub record ReadsLinks {P : Type 0} (ctells otells : Bool) (v w : View) (r s : Relay P)
     (step : BodyStep) : Type 0 where
-  pub minds : MindsBody ctells otells v w c d step false (is_late step)
+  pub minds : MindsBody ctells otells v w r s step false (is_late step)
   pub client : w.client ≡ v.client
   pub sent : w.sent ≡ v.sent
 
@@ -122,13 +125,19 @@ abbrev pub OnlyOfBody : ℕ → ℕ → Context → Context → Type 0
 OnlyOfBody writes reads a b =
     SetsOnly (λ p. IsOfRoleFrom FIRST a.roles p ⊎ IsOfEnd writes reads a.moment b.roles p) a b
 
+-- once no more of a body comes, it stays known why
+abbrev pub KeepsShort : {P : Type 0} → Relay P → Relay P → Type 0
+KeepsShort r s = (why : Short) → r.short ≡ Some why → s.short ≡ Some why
+
 -- What an event of a body does with the links; and what it sets is of a stage, or lets an end of the body
--- work: at once, or 10 milliseconds later where its link was not ready.
+-- work: at once, or 10 milliseconds later where its link was not ready. Once no more of the body comes, none
+-- does.
 pub record HandlesLinks {P : Type 0} (ctells otells : Bool) (v w : View) (main : Option StageContinuation)
     (r s : Relay P) (step : BodyStep) (a b : Context) : Type 0 where
   pub client_late : Bool
   pub origin_late : Bool
-  pub minds : MindsBody ctells otells v w r.driven.chain s.driven.chain step client_late origin_late
+  pub minds : MindsBody ctells otells v w r s step client_late origin_late
+  pub stays : KeepsShort r s
   pub due : AreBodyNamed a.roles main r
       → OnlyOfBody (pause_if client_late RETRY_AFTER) (pause_if origin_late RETRY_AFTER) a b
 

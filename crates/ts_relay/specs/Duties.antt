@@ -1,11 +1,11 @@
 -- Who must work while a body is passed on, and that each duty has an event of a continuation that does it
 -- (Developer's Guide, "Continuations" and "Transformations").
-use Rattle.std.specs.Prelude.{◌≡◌, ◌≢◌, ℕ, ◌≤◌, ◌⊎◌, List, [], ◌∷◌, Bool, true, Option, ⊤}
+use Rattle.std.specs.Prelude.{◌≡◌, ◌≢◌, ℕ, ◌+◌, ◌≤◌, ◌⊎◌, List, [], ◌∷◌, Bool, true, Option, None, ⊤}
 use Rattle.ts_journal.specs.declared.entry.TheConstants.{GREATEST}
 use Rattle.ts_journal.specs.declared.entry.Event.{Event}
 use Rattle.ts_journal.specs.declared.entry.Pending.{Pending}
 use Rattle.ts_group.specs.declared.action.Named.{Named}
-use Rattle.ts_transform.specs.Flow.{ChainState, EndsInOrder, IsFinished, MustRead, MustWrite}
+use Rattle.ts_transform.specs.Flow.{EndsInOrder, IsFinished, MustRead, MustWrite, Rests}
 use Rattle.ts_group.specs.Context.{Context}
 use Rattle.ts_transform.specs.Driving.{ActsWithin, IsHandled, IsOfStageIf, IsRousedIf, KeepsStage, unroused}
 use Rattle.ts_transform.specs.Seats.{KeepsSeated}
@@ -14,15 +14,24 @@ use Rattle.ts_transform.specs.declared.continuation.StageContinuation.{StageCont
 use Rattle.ts_relay.specs.declared.relay.TheConstants.{MAIN, READER}
 use Rattle.ts_phases.specs.View.{View}
 use Rattle.ts_relay.specs.Feeding.{OnGoes}
-use Rattle.ts_relay.specs.Relaying.{AddsSome}
+use Rattle.ts_relay.specs.Relaying.{AddsSome, set_by_stage}
 use Rattle.ts_relay.specs.declared.last_writes.BodyStep.{BodyStep}
 use Rattle.ts_relay.specs.declared.last_writes.BodyStep.TheVariants as S
 use Rattle.ts_relay.specs.declared.relay.Relay.{Relay}
 
--- the first continuation must write: something waits for the client, or the chain gave something, or has
--- given all
-abbrev pub MustSend : {P : Type 0} → View → ChainState P → Type 0
-MustSend v c = (v.client.outbox ≢ []) ⊎ MustWrite c ⊎ ((c.given ≡ true) × IsFinished c)
+-- the reader must read on: more of the body may come, and more may be given to the chain
+abbrev pub MustReadOn : {P : Type 0} → Relay P → Type 0
+MustReadOn r = (r.short ≡ None) × MustRead r.driven.chain
+
+-- what the client gets of the body ends here: the chain has given all, or it rests, and no more of the body
+-- comes
+abbrev pub MustEnd : {P : Type 0} → Relay P → Type 0
+MustEnd r = IsFinished r.driven.chain ⊎ ((r.short ≢ None) × Rests r.driven.chain)
+
+-- the first continuation must write: something waits for the client, or the chain gave something, or what
+-- the client gets ends here
+abbrev pub MustSend : {P : Type 0} → View → Relay P → Type 0
+MustSend v r = (v.client.outbox ≢ []) ⊎ MustWrite r.driven.chain ⊎ MustEnd r
 
 -- While no event of a stage was lost, the continuations of a body have their roles, each that is roused has
 -- an event, and so has each stage that must work.
@@ -41,20 +50,21 @@ body_seats main r = main ∷ relay_seats r
 -- the first continuation and the reader are roused, where they must work
 pub record AreBodyEndsRoused {P : Type 0} (v : View) (main : Option StageContinuation)
     (r : Relay P) : Type 0 where
-  pub writes : MustSend v r.driven.chain → IsRousedIf main
-  pub reads : MustRead r.driven.chain → IsRousedIf r.reader
+  pub writes : MustSend v r → IsRousedIf main
+  pub reads : MustReadOn r → IsRousedIf r.reader
 
 -- so each duty of a body is done, unless the event numbers are used up
 abbrev pub IsBodyCovered : {P : Type 0} → View → Option StageContinuation → Relay P → ℕ → Type 0
 IsBodyCovered v main r next = ((r.driven.running ≡ true) × AreBodyEndsRoused v main r) ⊎ (GREATEST ≤ next)
 
 -- whether the first continuation must work
-pub record TellsDuty {P : Type 0} (must : Bool) (v : View) (c : ChainState P) : Type 0 where
-  pub must_send : must ≡ true → MustSend v c
-  pub only : MustSend v c → must ≡ true
+pub record TellsDuty {P : Type 0} (must : Bool) (v : View) (r : Relay P) : Type 0 where
+  pub must_send : must ≡ true → MustSend v r
+  pub only : MustSend v r → must ≡ true
 
 -- how many events are set at most: where an end of a body is roused, where both are, where an event of a
--- body is handled, and where a body begins
+-- body is handled, and where a body begins of so many stages: of each stage, of the last where there is no
+-- body, and of both ends
 abbrev pub set_by_end : ℕ
 set_by_end = 1
 
@@ -64,8 +74,8 @@ set_by_ends = 2
 abbrev pub set_by_event : ℕ
 set_by_event = 6
 
-abbrev pub set_by_beginning : ℕ
-set_by_beginning = 4
+abbrev pub set_by_beginning : ℕ → ℕ
+set_by_beginning stages = (stages + set_by_stage) + set_by_ends
 
 -- What is left where a continuation was roused, or could not be: it is, if it must work, or the event
 -- numbers are used up.
@@ -91,11 +101,11 @@ pub record RousesBoth (step : BodyStep) (writes reads : Bool) (t u r s : Option 
       ⊎ (GREATEST ≤ b.log.state.next))
   pub rests : (writes ≡ true → IsRousedIf t) → (reads ≡ true → IsRousedIf r) → b ≡ a
 
--- The same of a body: the reader must work where more may be given to the chain.
+-- The same of a body: the reader must work where it must read on.
 abbrev pub EndsRouse : {P : Type 0} → BodyStep → Bool → Option StageContinuation → Option StageContinuation
     → Relay P → Relay P → Context → Context → Type 0
-EndsRouse step writes t u r s a b = (reads : Bool) × (MustRead r.driven.chain → reads ≡ true)
-    × (reads ≡ true → MustRead r.driven.chain) × RousesBoth step writes reads t u r.reader s.reader a b
+EndsRouse step writes t u r s a b = (reads : Bool) × (MustReadOn r → reads ≡ true)
+    × (reads ≡ true → MustReadOn r) × RousesBoth step writes reads t u r.reader s.reader a b
 
 -- the stages run, or the event numbers are used up
 abbrev pub RunsOr : {P : Type 0} → Relay P → ℕ → Type 0
@@ -157,20 +167,20 @@ pub record HandlesBody {P : Type 0} (step : BodyStep) (role : ℕ) (event : Even
   pub own : DoesOwnWork role v w
   pub runs : IsBodyCovered v t r a.log.state.next → UnlessLacking step (RunsOr s b.log.state.next)
   pub seated : KeepsSeated (body_seats t r) (body_seats u s) a b
-  pub ordered : EndsInOrder r.driven.chain.given r.driven.chain.stages
-      → EndsInOrder s.driven.chain.given s.driven.chain.stages
+  pub ordered : EndsInOrder true r.driven.chain.stages → EndsInOrder true s.driven.chain.stages
 
--- What is left where a body began, whose first continuation had its role: it is passed on, or memory lacked.
-pub record BeginsBody {P : Type 0} (step : BodyStep) (v : View) (t u : Option StageContinuation) (s : Relay P)
-    (a b : Context) : Type 0 where
-  pub acts : ActsWithin set_by_beginning a b
+-- What is left where a body of so many stages began, whose first continuation had its role: it is passed on,
+-- or memory lacked.
+pub record BeginsBody {P : Type 0} (step : BodyStep) (stages : ℕ) (v : View) (t u : Option StageContinuation)
+    (s : Relay P) (a b : Context) : Type 0 where
+  pub acts : ActsWithin (set_by_beginning stages) a b
   pub joined : IsOfStageIf a.log.state.pending a.roles MAIN t
       → IsBodyJoined u s b.log.state.pending b.roles
   pub covered : WhileGoes step (IsBodyCovered v u s b.log.state.next)
   pub goes : OnGoes step ⊤
   pub runs : UnlessLacking step (RunsOr s b.log.state.next)
   pub seated : KeepsSeated (t ∷ []) (body_seats u s) a b
-  pub ordered : EndsInOrder s.driven.chain.given s.driven.chain.stages
+  pub ordered : EndsInOrder true s.driven.chain.stages
 
 -- how many events are set at most where a body is left
 abbrev pub set_leaving : BodyStep → ℕ

@@ -1,17 +1,17 @@
 -- How a body begins to be passed on: the transforms of the lines that act on it are made, and the client's
 -- head is queued (Developer's Guide, "Transformations").
-use Rattle.std.specs.Prelude.{◌≡◌, ℕ, ◌≤◌, ◌⊎◌, List, [], true, false, Option, None, ⊤}
+use Rattle.std.specs.Prelude.{◌≡◌, ℕ, ◌+◌, ◌≤◌, ◌⊎◌, List, [], true, false, Option, None, ⊤}
 use Rattle.std.specs.Arc.{arc_value}
 use Rattle.ts_config.specs.declared.setup.Setup.{Setup}
 use Rattle.ts_config.specs.declared.setup.TransformLine.{TransformLine}
-use Rattle.ts_config.specs.Bodies.{compose_lines, whole_of}
+use Rattle.ts_config.specs.Bodies.{so_far_of, whole_of}
 use Rattle.ts_hooks.specs.declared.txn_end.TxnEnd.TheVariants as E
 use Rattle.ts_journal.specs.declared.entry.TheConstants.{GREATEST}
 use Rattle.ts_group.specs.Context.{Context}
 use Rattle.ts_link.specs.Link.{all_of}
 use Rattle.ts_link.specs.declared.link.Link as link
 use Rattle.ts_upstream.specs.declared.upstream.Upstream as upstream
-use Rattle.ts_transform.specs.Flow.{ChainState, EndsInOrder, OnlyFirstWorks, flow}
+use Rattle.ts_transform.specs.Flow.{ChainState, EndsInOrder}
 use Rattle.ts_transform.specs.Driving.{ActsWithin, IsOfStageIf}
 use Rattle.ts_transform.specs.Driven.{IsDrivenWhile}
 use Rattle.ts_transform.specs.Seats.{KeepsSeated}
@@ -29,7 +29,7 @@ use Rattle.ts_phases.specs.View.{OriginRefuses, View, view_of}
 use Rattle.ts_phases.specs.Holding.{IfTold}
 use Rattle.ts_phases.specs.Ends.{EndFact}
 use Rattle.ts_relay.specs.Duties.{relay_seats}
-use Rattle.ts_relay.specs.Relaying.{ReadsBody, SendsBody, set_by_part}
+use Rattle.ts_relay.specs.Relaying.{ReadsBody, SendsBody, Sends, set_by_stage}
 use Rattle.ts_relay.specs.declared.last_writes.BodyStep.{BodyStep}
 use Rattle.ts_relay.specs.declared.last_writes.BodyStep.TheVariants as S
 use Rattle.ts_phases.specs.declared.parts.Core.{Core}
@@ -37,36 +37,38 @@ use Rattle.ts_phases.specs.declared.phase.Request.{Request}
 use Rattle.ts_relay.specs.declared.relay.Relay.{Relay}
 use Rattle.ts_relay.specs.declared.relay.TheConstants.{FIRST, READER}
 
--- the transform of a line makes of a whole body what the line does
-abbrev pub ActsAsLines : (TransformLine → List ℕ → List ℕ) → Type 0
-ActsAsLines whole = (l : TransformLine) (z : List ℕ) → whole l z ≡ whole_of l z
+-- the transform of a line makes of a whole body what the line does, and writes of a body so far what the line
+-- does, until the line finishes early
+abbrev pub ActsAsLines : {P : Type 0} → transform.Ghosts P TransformLine → Type 0
+ActsAsLines stage = (l : TransformLine) (z : List ℕ)
+    → (stage.whole l z ≡ whole_of l z) × (stage.line_soon l z ≡ so_far_of l z)
 
--- no continuation was made, and no stage has ended
+-- no continuation was made, nothing was given to the chain, and no stage has ended
 pub record IsUnbegun {P : Type 0} (r : Relay P) : Type 0 where
   pub no_stage : r.driven.table.items ≡ []
   pub stopped : r.driven.running ≡ false
   pub no_reader : r.reader ≡ None
-  pub in_order : EndsInOrder r.driven.chain.given r.driven.chain.stages
+  pub going : r.driven.chain.given ≡ false
+  pub goes_on : r.short ≡ None
+  pub in_order : EndsInOrder true r.driven.chain.stages
 
 -- The body of this response is passed on through its lines, and nothing was begun.
-pub record IsFreshRelay {P : Type 0} (rest : P → List ℕ → List ℕ) (setup : Setup) (q : RequestHead)
+pub record IsFreshRelay {P L : Type 0} (stage : transform.Ghosts P L) (setup : Setup) (q : RequestHead)
     (h : ResponseHead) (r : Relay P) : Type 0 where
-  pub flows : (z : List ℕ) → flow rest r.driven.chain z ≡ compose_lines (body_lines setup q h) z
-  pub going : r.driven.chain.given ≡ false
-  pub first : OnlyFirstWorks r.driven.chain
+  pub sends : Sends stage.rest stage.soon (body_lines setup q h) [] [] r.driven.chain
   pub fed : IsFed (framing_of q h) [] [] r.body
   pub unbegun : IsUnbegun r
 
 module _ (setup : Setup) (refuses : Type 0) where
   -- The client's head is queued, and nothing of the body was read.
-  pub record EntersBody {P : Type 0} (rest : P → List ℕ → List ℕ) (v : View) (c : ChainState P)
+  pub record EntersBody {P L : Type 0} (stage : transform.Ghosts P L) (v : View) (c : ChainState P)
       (place : Place) : Type 0 where
     pub q : Request
     pub h : ResponseHead
     pub read : List ℕ
     pub reads : ReadsBody setup refuses q h (all_of v.client.look) v.dialed v.origin place read
     pub going : c.given ≡ false
-    pub sends : SendsBody setup refuses q h rest v.client v.sent c read
+    pub sends : SendsBody setup refuses q h stage v.client v.sent c read
 
 -- no call was made on either link, and what they gave is kept
 pub record CallsNeither (v w : View) : Type 0 where
@@ -97,11 +99,13 @@ pub record BeginsChain {P : Type 0} (step : BodyStep) (most : ℕ) (d : DrivenCh
   pub seated : KeepsSeated [] d.table.items a b
 
 -- And the reader has a role of its own: whatever was set is of one of these.
-pub record BeginsRelay {P : Type 0} (step : BodyStep) (r : Relay P) (a b : Context) : Type 0 where
-  pub chain : BeginsChain step set_by_part r.driven a b
+pub record BeginsRelay {P : Type 0} (step : BodyStep) (stages : ℕ) (r : Relay P) (a b : Context)
+    : Type 0 where
+  pub chain : BeginsChain step (stages + set_by_stage) r.driven a b
   pub of_reader : IsOfStageIf b.log.state.pending b.roles READER r.reader
   pub seated : KeepsSeated [] (relay_seats r) a b
-  pub ordered : EndsInOrder r.driven.chain.given r.driven.chain.stages
+  pub ordered : EndsInOrder true r.driven.chain.stages
+  pub goes_on : r.short ≡ None
 
 module _ {C O : Type 0} (client : link.Ghosts C) (origin : link.Ghosts O) (both : upstream.Ghosts O C) where
   -- memory lacked
@@ -115,11 +119,11 @@ module _ {C O P L : Type 0} (client : link.Ghosts C) (origin : link.Ghosts O) (b
   -- the client's head is queued
   abbrev pub EnterHolds : Core C O → Relay P → Type 0
   EnterHolds t r = IfTold client.tells origin.tells
-      (EntersBody (arc_value t.setup) (OriginRefuses client both t) stage.rest (view_of client origin t)
+      (EntersBody (arc_value t.setup) (OriginRefuses client both t) stage (view_of client origin t)
       r.driven.chain r.body)
 
   -- What the origin refuses is what it refused before.
   abbrev pub EntersAfter : Core C O → Core C O → Relay P → Type 0
   EntersAfter old new r = IfTold client.tells origin.tells
-      (EntersBody (arc_value old.setup) (OriginRefuses client both old) stage.rest
+      (EntersBody (arc_value old.setup) (OriginRefuses client both old) stage
       (view_of client origin new) r.driven.chain r.body)

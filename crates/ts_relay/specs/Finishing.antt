@@ -11,7 +11,7 @@ use Rattle.ts_upstream.specs.declared.upstream.Upstream as upstream
 use Rattle.ts_block.specs.Block.{IsBlock}
 use Rattle.ts_phases.specs.View.{HasCount, HasFailed, OriginRefuses, View, view_of}
 use Rattle.ts_phases.specs.Facts.{HasTook, TookExactly}
-use Rattle.ts_phases.specs.Ends.{EndFact, HasText, Relayed}
+use Rattle.ts_phases.specs.Ends.{EndFact, HasText, Relayed, SendsSoon}
 use Rattle.ts_phases.specs.Holding.{IfTold}
 use Rattle.ts_block.specs.declared.block.Block.{Block}
 use Rattle.ts_phases.specs.declared.parts.Core.{Core}
@@ -19,7 +19,7 @@ use Rattle.ts_relay.specs.declared.last_writes.BodyStep.{BodyStep}
 use Rattle.ts_relay.specs.declared.last_writes.BodyStep.TheVariants as S
 
 module _ (setup : Setup) (refuses : Type 0) where
-  -- The client's text is the block's head and its body, whole with its end, or so much of it and no end.
+  -- The client's text is the block's head, and a body with its end, or without one.
   pub record QueuesBlock (v : View) (end : TxnEnd) (fin : Bool) : Type 0 where
     pub block : Block
     pub is_block : IsBlock setup v.dialed refuses (all_of v.origin.look) (all_of v.client.look) block
@@ -28,8 +28,19 @@ module _ (setup : Setup) (refuses : Type 0) where
     pub mode : v.sent.mode ≡ block.mode
     pub sent : List ℕ
     pub text : HasText v.client v.sent block.head sent fin
-    pub whole : fin ≡ true → sent ≡ block.body
-    pub relayed : Relayed setup refuses v fin fin sent
+
+  -- It is the block's body, with its end.
+  pub record QueuesWhole (v : View) : Type 0 where
+    pub queues : QueuesBlock v E.Whole true
+    pub whole : queues.sent ≡ queues.block.body
+    pub done : Bool
+    pub relayed : Relayed setup refuses v done true queues.sent
+
+  -- It is what the lines had written of a body that is cut or bad, and no end.
+  pub record QueuesShort (v : View) (end : TxnEnd) : Type 0 where
+    pub queues : QueuesBlock v end false
+    pub relayed : Relayed setup refuses v false false queues.sent
+    pub soon : SendsSoon setup v end relayed.q relayed.h queues.sent
 
   -- The origin's link failed behind the head that was passed on, and nothing is framed any more.
   pub record FailsLate (v : View) : Type 0 where
@@ -40,9 +51,9 @@ module _ (setup : Setup) (refuses : Type 0) where
 
   -- why the text is queued whole, by the end that comes once it is written
   abbrev pub QueuesFor : View → TxnEnd → Type 0
-  QueuesFor v E.Whole = QueuesBlock v E.Whole true
-  QueuesFor v E.OriginCut = QueuesBlock v E.OriginCut false
-  QueuesFor v E.OriginBad = QueuesBlock v E.OriginBad false
+  QueuesFor v E.Whole = QueuesWhole v
+  QueuesFor v E.OriginCut = QueuesShort v E.OriginCut
+  QueuesFor v E.OriginBad = QueuesShort v E.OriginBad
   QueuesFor v E.OriginFault = FailsLate v
   QueuesFor v E.ClientFault = ⊥
   QueuesFor v E.NoMemory = ⊥

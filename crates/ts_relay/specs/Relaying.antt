@@ -2,7 +2,7 @@
 -- followed by what the chain still gives, is the lines' work on what was read, followed by what still comes
 -- (Developer's Guide, "Transformations"; RFC 9112, sections 6.3 and 8).
 use Rattle.std.specs.Prelude.{◌≡◌, ◌≢◌, ℕ, ◌+◌, ◌≤◌, ◌⊎◌, ◌++◌, List, [], Bool, true, false, Option, Some}
-use Rattle.std.specs.Prelude.{Result, Ok, Err, ⊤}
+use Rattle.std.specs.Prelude.{None, Result, Ok, Err, ⊤}
 use Rattle.std.specs.Arc.{arc_value}
 use Rattle.std.specs.Bool.{OnTrue}
 use Rattle.ts_journal.specs.declared.entry.Pending.{Pending}
@@ -13,11 +13,15 @@ use Rattle.ts_group.specs.declared.action.Named.{Named}
 use Rattle.ts_group.specs.Context.{Context, role_at}
 use Rattle.ts_group.specs.Entries.{Grows}
 use Rattle.ts_config.specs.declared.setup.Setup.{Setup}
-use Rattle.ts_config.specs.Bodies.{compose_lines}
+use Rattle.ts_config.specs.declared.setup.TransformLine.{TransformLine}
+use Rattle.ts_config.specs.Bodies.{compose_lines, so_far}
+use Rattle.ts_hooks.specs.declared.txn_end.TxnEnd.{TxnEnd}
+use Rattle.ts_hooks.specs.declared.txn_end.TxnEnd.TheVariants as E
 use Rattle.ts_link.specs.Link.{all_of}
 use Rattle.ts_link.specs.declared.link.Link as link
 use Rattle.ts_upstream.specs.declared.upstream.Upstream as upstream
-use Rattle.ts_transform.specs.Flow.{ChainState, EndsInOrder, flow}
+use Rattle.ts_transform.specs.Flow.{AreSettled, ChainState, EndsInOrder, flow, soon_flow}
+use Rattle.ts_transform.specs.Law.{behind}
 use Rattle.ts_transform.specs.Driving.{AreNamed, Keeps, SetsFew, SetsOnly}
 use Rattle.ts_transform.specs.Driven.{SameSeats, StaysDriven}
 use Rattle.ts_transform.specs.declared.continuation.StageContinuation.{StageContinuation}
@@ -26,6 +30,8 @@ use Rattle.ts_transform.specs.declared.loss.Loss.TheVariants as loss
 use Rattle.ts_transform.specs.declared.transform.Transform as transform
 use Rattle.ts_wire.specs.declared.heads.ResponseHead.{ResponseHead}
 use Rattle.ts_wire.specs.declared.body.BodyState.TheVariants as B
+use Rattle.ts_wire.specs.declared.framing.Framing.{Framing}
+use Rattle.ts_wire.specs.declared.framing.Framing.TheVariants as G
 use Rattle.ts_wire.specs.Place.{Place, IsFed, state_of}
 use Rattle.ts_block.specs.Relayed.{framing_of, mode_of}
 use Rattle.ts_block.specs.Heads.{FinalHead}
@@ -39,8 +45,31 @@ use Rattle.ts_relay.specs.declared.last_writes.BodyStep.{BodyStep}
 use Rattle.ts_relay.specs.declared.last_writes.BodyStep.TheVariants as S
 use Rattle.ts_phases.specs.declared.parts.Core.{Core}
 use Rattle.ts_relay.specs.declared.relay.Relay.{Relay}
+use Rattle.ts_relay.specs.declared.relay.Short.{Short}
+use Rattle.ts_relay.specs.declared.relay.Short.TheVariants as K
 use Rattle.ts_phases.specs.declared.parts.Sent.{Sent}
 use Rattle.ts_phases.specs.declared.phase.Request.{Request}
+
+-- What was sent, followed by what the chain still gives, is the lines' work on what was read: followed by
+-- whatever still comes before the chain's end was given, and by nothing from then on. Before that it is also
+-- what the lines have written so far, unless one of them has finished early.
+pub record Sends {P : Type 0} (rest : P → List ℕ → List ℕ) (soon : P → List ℕ → Option (List ℕ))
+    (lines : List TransformLine) (read body : List ℕ) (c : ChainState P) : Type 0 where
+  pub flows : (z : List ℕ) → OnTrue c.given (z ≡ []) → body ++ flow rest c z ≡ compose_lines lines (read ++ z)
+  pub so : c.given ≡ false → (z : List ℕ) → so_far lines (read ++ z) ≡ behind body (soon_flow soon c z)
+  pub settled : AreSettled soon c.stages
+
+-- A body that has not ended goes on; or no more of it comes, since its origin has ended, or since it is bad.
+abbrev pub IsShort : Framing → LinkSide → Place → Option Short → Type 0
+IsShort framing origin place None = state_of place.phase ≡ B.Unfinished
+IsShort framing origin place (Some K.Cut) = (state_of place.phase ≡ B.Unfinished)
+    × (framing ≢ G.UntilClose) × (origin.look.left ≡ []) × (origin.inbox ≡ [])
+IsShort framing origin place (Some K.Bad) = state_of place.phase ≡ B.Bad
+
+-- the end of a transaction whose body stopped short
+abbrev pub short_end : Short → TxnEnd
+short_end K.Cut = E.OriginCut
+short_end K.Bad = E.OriginBad
 
 module _ (setup : Setup) (refuses : Type 0) where
   module _ (q : Request) (h : ResponseHead) where
@@ -54,32 +83,32 @@ module _ (setup : Setup) (refuses : Type 0) where
       pub reads : FinalHead origin.look.given h (fed ++ origin.inbox)
       pub is_fed : IsFed (framing_of q.head h) fed read place
 
-    -- The end of the chain's input was given where the body is over, and nowhere else.
-    pub record GivesEnd (origin : LinkSide) (place : Place) (given : Bool) : Type 0 where
-      pub ended : given ≡ true → IsBodyOver (framing_of q.head h) origin place
-      pub goes_on : given ≡ false → state_of place.phase ≡ B.Unfinished
+    -- The end of the chain's input was given where the body is over, and nowhere else; before, the body goes
+    -- on, or stops short of its end.
+    pub record GivesEnd (origin : LinkSide) (place : Place) (given : Bool)
+        (short : Option Short) : Type 0 where
+      pub ended : given ≡ true → (short ≡ None) × IsBodyOver (framing_of q.head h) origin place
+      pub goes_on : given ≡ false → IsShort (framing_of q.head h) origin place short
 
-    -- The client's text is the head, and a body that goes on as the chain does: for whatever still comes
-    -- before the end was given, and for nothing from then on.
-    pub record SendsBody {P : Type 0} (rest : P → List ℕ → List ℕ) (client : LinkSide) (s : Sent)
+    -- The client's text is the head, and a body that goes on as the chain does.
+    pub record SendsBody {P L : Type 0} (stage : transform.Ghosts P L) (client : LinkSide) (s : Sent)
         (c : ChainState P) (read : List ℕ) : Type 0 where
       pub count : HasCount client
       pub some : client.look.given ≢ []
       pub mode : s.mode ≡ mode_of (framing_for setup q.head h)
       pub body : List ℕ
       pub text : HasText client s (relayed_head setup q.head h) body false
-      pub flows : (z : List ℕ) → OnTrue c.given (z ≡ [])
-          → body ++ flow rest c z ≡ compose_lines (body_lines setup q.head h) (read ++ z)
+      pub sends : Sends stage.rest stage.soon (body_lines setup q.head h) read body c
 
-  -- while the body is passed on
-  pub record RelaysBody {P : Type 0} (rest : P → List ℕ → List ℕ) (v : View) (c : ChainState P)
-      (place : Place) : Type 0 where
+  -- while the body is passed on, of which no more may come though it has not ended
+  pub record RelaysBody {P L : Type 0} (stage : transform.Ghosts P L) (v : View) (c : ChainState P)
+      (place : Place) (short : Option Short) : Type 0 where
     pub q : Request
     pub h : ResponseHead
     pub read : List ℕ
     pub reads : ReadsBody q h (all_of v.client.look) v.dialed v.origin place read
-    pub gives_end : GivesEnd q h v.origin place c.given
-    pub sends : SendsBody q h rest v.client v.sent c read
+    pub gives_end : GivesEnd q h v.origin place c.given short
+    pub sends : SendsBody q h stage v.client v.sent c read
 
 -- where a step leads at which an event was set, or could not be: memory lacks, or the event numbers are
 -- used up, which ends nothing
@@ -130,20 +159,20 @@ pub record StepsChain {P : Type 0} (step : BodyStep) (most : ℕ) (d e : DrivenC
   pub falls : e.running ≡ true → d.running ≡ true
   pub seats : SameSeats d e old new
   pub only : OnlyOfStages d.table.items old new
-  pub ordered : EndsInOrder d.chain.given d.chain.stages → EndsInOrder e.chain.given e.chain.stages
+  pub ordered : EndsInOrder true d.chain.stages → EndsInOrder true e.chain.stages
 
 module _ {C O P L : Type 0} (client : link.Ghosts C) (origin : link.Ghosts O) (both : upstream.Ghosts O C)
     (stage : transform.Ghosts P L) where
   -- the fact of a transaction whose links tell
   abbrev pub RelayHolds : Core C O → Relay P → Type 0
   RelayHolds t r = IfTold client.tells origin.tells
-      (RelaysBody (arc_value t.setup) (OriginRefuses client both t) stage.rest (view_of client origin t)
-      r.driven.chain r.body)
+      (RelaysBody (arc_value t.setup) (OriginRefuses client both t) stage (view_of client origin t)
+      r.driven.chain r.body r.short)
 
   -- What the origin refuses is what it refused before.
   abbrev pub RelayLeads : Core C O → Core C O → Relay P → BodyStep → Type 0
   RelayLeads old new r step = IfTold client.tells origin.tells
       (LeadsBody (arc_value old.setup) (OriginRefuses client both old)
-      (RelaysBody (arc_value old.setup) (OriginRefuses client both old) stage.rest
-      (view_of client origin new) r.driven.chain r.body)
+      (RelaysBody (arc_value old.setup) (OriginRefuses client both old) stage
+      (view_of client origin new) r.driven.chain r.body r.short)
       (view_of client origin new) step)

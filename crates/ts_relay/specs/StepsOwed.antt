@@ -13,7 +13,7 @@ use Rattle.ts_transform.specs.declared.continuation.StageContinuation.{StageCont
 use Rattle.ts_phases.specs.Holding.{IfTold, StepKeeps}
 use Rattle.ts_phases.specs.View.{view_of}
 use Rattle.ts_phases.specs.declared.parts.Core.{Core}
-use Rattle.ts_relay.specs.BodyLinks.{HandlesLinks, ReadsLinks, WritesLinks}
+use Rattle.ts_relay.specs.BodyLinks.{HandlesLinks, KeepsShort, ReadsLinks, WritesLinks}
 use Rattle.ts_relay.specs.Duties.{HandlesBody}
 use Rattle.ts_relay.specs.LoweringBody.{LowersBody, LowersEntering, PaysBody, finish_left, rest_after}
 use Rattle.ts_relay.specs.Relaying.{StepsChain, set_by_part, set_by_stage}
@@ -26,7 +26,7 @@ module _ {C O P : Type 0} (client : link.Ghosts C) (origin : link.Ghosts O) (bot
   pub record WriterSteps (step : BodyStep) (r s : Relay P) (a b : Context) : Type 0 where
     pub keeps : StepKeeps client origin both old new
     pub links : WritesLinks client.tells origin.tells (view_of client origin old) (view_of client origin new)
-        r.driven.chain s.driven.chain step  -- nothing is done with the origin's link
+        r s step  -- nothing is done with the origin's link
     pub chain : StepsChain step set_by_stage r.driven s.driven a b
     pub relay : s ≡ record r { driven = s.driven }  -- of the body only the chain changes
 
@@ -34,9 +34,10 @@ module _ {C O P : Type 0} (client : link.Ghosts C) (origin : link.Ghosts O) (bot
   pub record ReaderSteps (step : BodyStep) (r s : Relay P) (a b : Context) : Type 0 where
     pub keeps : StepKeeps client origin both old new
     pub links : ReadsLinks client.tells origin.tells (view_of client origin old) (view_of client origin new)
-        r.driven.chain s.driven.chain step  -- nothing is done with the client's link
+        r s step  -- nothing is done with the client's link
     pub chain : StepsChain step set_by_part r.driven s.driven a b
     pub reader : s.reader ≡ r.reader  -- whether the reader is roused stays
+    pub stays : KeepsShort r s  -- and so does why no more of the body comes
 
   -- An event of a role: what it keeps, who is roused by then, and what it does with the links.
   pub record BodyHandles (role : ℕ) (event : Event) (step : BodyStep) (t m : Option StageContinuation)

@@ -1,20 +1,19 @@
 //! The steps that write a body to the client: what waits is written, a piece is framed, or the end is.
 ghost use Rattle.std.specs.Prelude.{◌≡◌, ◌<◌, [], true, false, length, take};
 ghost use Rattle.ts_group.specs.Context.{Context};
-ghost use Rattle.ts_transform.specs.Flow.{IsFinished, flow};
 ghost use Rattle.ts_wire.specs.Frames.{IsPiece};
-ghost use Rattle.ts_relay.specs.Duties.{MustSend};
+ghost use Rattle.ts_relay.specs.Duties.{MustEnd, MustSend};
 ghost use Rattle.ts_phases.specs.View.{view_of};
 ghost use Rattle.ts_relay.specs.StepsOwed.{EndLowers, WriterSteps};
 ghost use Rattle.ts_relay.specs.Relaying.{RelayHolds, RelayLeads};
 
 use crate::last_writes::BodyStep;
-use crate::relay::{Relay, step_after};
+use crate::relay::{Relay, short_end, step_after};
 use ts_group::Cx;
 use ts_hooks::TxnEnd;
 use ts_link::Link;
 use ts_phases::Core;
-use ts_transform::{Chain, Transform};
+use ts_transform::Transform;
 use ts_upstream::Upstream;
 use ts_vconn::Pushed;
 use ts_wire::MAX_PIECE;
@@ -29,16 +28,8 @@ fn piece_of(bytes: &[u8]) -> &[u8]
     piece
 }
 
-// Whether a chain got its end, and has given all that it gives.
-fn has_given_all<P: Transform + Drop>(chain: &Chain<P>) -> bool
-    ensures given { result ≡ true → chain.now.given ≡ true }
-    ensures all { result ≡ true → flow P.rest chain.now [] ≡ [] }
-    ensures only { chain.now.given ≡ true → IsFinished chain.now → result ≡ true }
-{
-    chain.is_given() && chain.is_finished()
-}
-
-// Frames the end of the body, where the chain has given all of it.
+// Ends what the client gets of the body: where the chain has given all, the end is framed; and where no more
+// of the body comes and the chain rests, nothing is framed any more.
 fn end_some<C: Link, O: Upstream<C>, P: Transform + Drop>(
     core: &mut Core<C, O>,
     relay: &Relay<P>,
@@ -50,16 +41,22 @@ fn end_some<C: Link, O: Upstream<C>, P: Transform + Drop>(
     ensures steps { (now : Context) → now.log.state.held ≡ true → WriterSteps C.Link O.Link O.Upstream.own
         core.old core.new result relay.now relay.now now now }
     ensures lowers { (now : Context) → EndLowers C.Link O.Link P.Transform core.old core.new
-        ((relay.now.driven.chain.given ≡ true) × IsFinished relay.now.driven.chain)
-        result relay.now relay.now now now }
+        (MustEnd relay.now) result relay.now relay.now now now }
 {
-    if !has_given_all(relay.driven.chain()) {
-        return BodyStep::Goes;
+    if relay.driven.chain().is_finished() {
+        let Ok(()) = core.end_body() else {
+            return BodyStep::Lacks;
+        };
+        return BodyStep::Finishes(TxnEnd::Whole);
     }
-    let Ok(()) = core.end_body() else {
-        return BodyStep::Lacks;
+    let Some(short) = relay.short else {
+        return BodyStep::Goes;
     };
-    BodyStep::Finishes(TxnEnd::Whole)
+    if relay.driven.chain().rests() {
+        BodyStep::Finishes(short_end(short))
+    } else {
+        BodyStep::Goes
+    }
 }
 
 // Frames one piece of what the chain gave, or the end.
@@ -76,7 +73,7 @@ fn frame_some<C: Link, O: Upstream<C>, P: Transform + Drop>(
     ensures steps { WriterSteps C.Link O.Link O.Upstream.own core.old core.new result
         relay.old relay.new cx.old cx.new }
     ensures lowers { EndLowers C.Link O.Link P.Transform core.old core.new
-        (MustSend (view_of C.Link O.Link core.old) relay.old.driven.chain)
+        (MustSend (view_of C.Link O.Link core.old) relay.old)
         result relay.old relay.new cx.old cx.new }
 {
     let Some(block) = relay.driven.chain().out_block() else {
@@ -91,7 +88,8 @@ fn frame_some<C: Link, O: Upstream<C>, P: Transform + Drop>(
 }
 
 /// Makes one step of the writer: it writes once of what waits for the client, or frames a piece of what
-/// the chain gave, or the end of the body once the chain has given all.
+/// the chain gave, or the end of the body once the chain has given all; or it leaves a body that stopped
+/// short once the chain rests.
 pub fn write_body<C: Link, O: Upstream<C>, P: Transform + Drop>(
     core: &mut Core<C, O>,
     relay: &mut Relay<P>,
@@ -104,7 +102,7 @@ pub fn write_body<C: Link, O: Upstream<C>, P: Transform + Drop>(
     ensures steps { WriterSteps C.Link O.Link O.Upstream.own core.old core.new result
         relay.old relay.new cx.old cx.new }
     ensures lowers { EndLowers C.Link O.Link P.Transform core.old core.new
-        (MustSend (view_of C.Link O.Link core.old) relay.old.driven.chain)
+        (MustSend (view_of C.Link O.Link core.old) relay.old)
         result relay.old relay.new cx.old cx.new }
 {
     if core.client.outbox.is_empty() {

@@ -32,6 +32,7 @@ pub fn close_relay<P: Transform + Drop>(relay: Relay<P>, cx: &mut Cx)
         driven,
         body: _,
         reader,
+        short: _,
     } = relay;
     let mut reader = reader;
     destroy_end(&mut reader, cx);

@@ -1,7 +1,7 @@
 //! Who must work while a body is passed on.
-ghost use Rattle.std.specs.Prelude.{◌≡◌, true, false};
+ghost use Rattle.std.specs.Prelude.{◌↔◌, IsTrue};
 ghost use Rattle.ts_phases.specs.View.{view_of};
-ghost use Rattle.ts_relay.specs.Duties.{TellsDuty};
+ghost use Rattle.ts_relay.specs.Duties.{MustReadOn, TellsDuty};
 
 use crate::relay::Relay;
 use ts_link::Link;
@@ -10,12 +10,12 @@ use ts_transform::Transform;
 use ts_upstream::Upstream;
 
 /// Whether the first continuation must work: something waits for the client, or the chain gave something,
-/// or has given all.
+/// or what the client gets of the body ends here.
 pub fn must_send<C: Link, O: Upstream<C>, P: Transform + Drop>(
     core: &Core<C, O>,
     relay: &Relay<P>,
 ) -> bool
-    ensures { TellsDuty result (view_of C.Link O.Link core.now) relay.now.driven.chain }
+    ensures { TellsDuty result (view_of C.Link O.Link core.now) relay.now }
 {
     if !core.client.outbox.is_empty() {
         return true;
@@ -23,8 +23,15 @@ pub fn must_send<C: Link, O: Upstream<C>, P: Transform + Drop>(
     if relay.driven.chain().has_output() {
         return true;
     }
-    if !relay.driven.chain().is_given() {
-        return false;
+    if relay.driven.chain().is_finished() {
+        return true;
     }
-    relay.driven.chain().is_finished()
+    relay.short.is_some() && relay.driven.chain().rests()
+}
+
+/// Whether the reader must read on: more of the body may come, and more may be given to the chain.
+pub fn must_read_on<P: Transform + Drop>(relay: &Relay<P>) -> bool
+    ensures { IsTrue result ↔ MustReadOn relay.now }
+{
+    relay.short.is_none() && relay.driven.chain().must_read()
 }

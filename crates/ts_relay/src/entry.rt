@@ -1,7 +1,6 @@
 //! How a body begins to be passed on: the client's head is queued, and continuations are made.
-ghost use Rattle.std.specs.Prelude.{◌≡◌, [], true, false, None, OnErr, IfOk};
+ghost use Rattle.std.specs.Prelude.{◌≡◌, [], length, true, false, None, OnErr, IfOk};
 ghost use Rattle.std.specs.Arc.{arc_value};
-ghost use Rattle.ts_transform.specs.Flow.{OnlyFirstWorks};
 ghost use Rattle.ts_wire.specs.Place.{state_of};
 ghost use Rattle.ts_relay.specs.Feeding.{OnGoes};
 ghost use Rattle.ts_transform.specs.Driving.{SetsOnly};
@@ -27,13 +26,12 @@ use ts_transform::{DrivenChain, Loss, Transform, make_end};
 use ts_upstream::Upstream;
 use ts_wire::{BodyState, Fields, ResponseHead};
 
-// Makes a continuation for each stage of a chain, and rouses the first if it must work.
+// Makes a continuation for each stage of a chain, and rouses each that must work.
 fn start_chain<P: Transform + Drop>(driven: &mut DrivenChain<P>, cx: &mut Cx) -> BodyStep
     requires turn { cx.old.log.state.held ≡ true }
     requires fresh { driven.old.table.items ≡ [] }
-    requires first { OnlyFirstWorks driven.old.chain }
     ensures chain { driven.new.chain ≡ driven.old.chain }
-    ensures begins { BeginsChain result set_by_stage driven.new cx.old cx.new }
+    ensures begins { BeginsChain result (length driven.old.chain.stages) driven.new cx.old cx.new }
     ensures due { SetsOnly (IsOfRoleFrom FIRST cx.new.roles) cx.old cx.new }
     ensures spent { IsNotSpent result driven.new }
 {
@@ -67,12 +65,10 @@ fn begin_input<P: Transform + Drop>(relay: &mut Relay<P>, cx: &mut Cx) -> BodySt
 fn begin_relay<P: Transform + Drop>(relay: &mut Relay<P>, cx: &mut Cx) -> BodyStep
     requires turn { cx.old.log.state.held ≡ true }
     requires fresh { IsUnbegun relay.old }
-    requires goes_on { relay.old.driven.chain.given ≡ false }
-    requires first { OnlyFirstWorks relay.old.driven.chain }
     ensures gets { OnGoes result
         (GetsStart (state_of relay.old.body.phase) relay.old.driven.chain relay.new.driven.chain) }
-    ensures body { relay.new.body ≡ relay.old.body }
-    ensures begins { BeginsRelay result relay.new cx.old cx.new }
+    ensures body { (relay.new.body ≡ relay.old.body) × (relay.new.short ≡ relay.old.short) }
+    ensures begins { BeginsRelay result (length relay.old.driven.chain.stages) relay.new cx.old cx.new }
     ensures due { relay.new.driven.running ≡ true
         → SetsOnly (IsOfRoleFrom FIRST cx.new.roles) cx.old cx.new }
 {
@@ -96,13 +92,12 @@ pub fn queue_relay<C: Link, O: Upstream<C>, P: Transform<Line = TransformLine> +
     head: &ResponseHead,
     fields: &Fields,
 ) -> Result<Relay<P>, NoMemory>
-    requires acts { ActsAsLines P.whole }
+    requires acts { ActsAsLines P.Transform }
     requires fact { HeadHolds C.Link O.Link O.Upstream.own core.old request.now head.now fields.now }
     ensures ok { IfOk result
         (λ r. EntersAfter C.Link O.Link O.Upstream.own P.Transform core.old core.new r) }
     ensures err { OnErr result (LacksAfter C.Link O.Link O.Upstream.own core.old core.new) }
-    ensures fresh { IfOk result (λ r. IsUnbegun r
-        × (r.driven.chain.given ≡ false) × OnlyFirstWorks r.driven.chain) }
+    ensures fresh { IfOk result IsUnbegun }
     ensures quiet { CallsNeither (view_of C.Link O.Link core.old) (view_of C.Link O.Link core.new) }
     ensures lowers { IfOk result (EntryLowers C.Link O.Link P.Transform core.old core.new) }
     ensures keeps { StepKeeps C.Link O.Link O.Upstream.own core.old core.new }
@@ -128,12 +123,10 @@ pub fn enter_body<C: Link, O: Upstream<C>, P: Transform + Drop>(
 ) -> BodyStep
     requires turn { cx.old.log.state.held ≡ true }
     requires fresh { IsUnbegun relay.old }
-    requires goes_on { (relay.old.driven.chain.given ≡ false)
-        × OnlyFirstWorks relay.old.driven.chain }
     requires fact { EnterHolds C.Link O.Link O.Upstream.own P.Transform core.now relay.old }
     ensures leads { RelayLeads C.Link O.Link O.Upstream.own P.Transform core.now core.now
         relay.new result }
-    ensures begins { BeginsRelay result relay.new cx.old cx.new }
+    ensures begins { BeginsRelay result (length relay.old.driven.chain.stages) relay.new cx.old cx.new }
     ensures lowers { BeginsLower (arc_value core.now.setup) P.rest result (view_of C.Link O.Link core.now)
         relay.old relay.new }
     ensures due { relay.new.driven.running ≡ true

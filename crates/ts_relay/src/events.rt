@@ -1,10 +1,9 @@
 //! The events of the continuations while a body is passed on: a step, and then both ends are roused.
-ghost use Rattle.std.specs.Prelude.{◌≡◌, ◌≢◌, true, false};
+ghost use Rattle.std.specs.Prelude.{◌≡◌, ◌≢◌, length, true, false};
 ghost use Rattle.std.specs.Arc.{arc_value};
 ghost use Rattle.ts_relay.specs.LoweringBody.{BeginsLower};
 ghost use Rattle.ts_phases.specs.View.{view_of};
 ghost use Rattle.ts_relay.specs.Relaying.{RelayHolds, RelayLeads};
-ghost use Rattle.ts_transform.specs.Flow.{OnlyFirstWorks};
 ghost use Rattle.ts_relay.specs.BodyLinks.{BeginsInTime, OnlyOfEnds, is_late, pause_if};
 ghost use Rattle.ts_relay.specs.Entering.{EnterHolds, IsUnbegun};
 ghost use Rattle.ts_relay.specs.Duties.{BeginsBody, SettlesAfter, SettlesBody};
@@ -181,13 +180,11 @@ pub fn begin_body<C: Link, O: Upstream<C>, P: Transform + Drop>(
 ) -> BodyStep
     requires turn { cx.old.log.state.held ≡ true }
     requires fresh { IsUnbegun relay.old }
-    requires goes_on { (relay.old.driven.chain.given ≡ false)
-        × OnlyFirstWorks relay.old.driven.chain }
     requires fact { EnterHolds C.Link O.Link O.Upstream.own P.Transform core.now relay.old }
     ensures leads { RelayLeads C.Link O.Link O.Upstream.own P.Transform core.now core.now
         relay.new result }
-    ensures begins { BeginsBody result (view_of C.Link O.Link core.now) main.old main.new relay.new
-        cx.old cx.new }
+    ensures begins { BeginsBody result (length relay.old.driven.chain.stages)
+        (view_of C.Link O.Link core.now) main.old main.new relay.new cx.old cx.new }
     ensures lowers { BeginsLower (arc_value core.now.setup) P.rest result (view_of C.Link O.Link core.now)
         relay.old relay.new }
     ensures due { BeginsInTime main.old relay.new cx.old cx.new }

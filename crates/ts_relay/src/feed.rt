@@ -1,15 +1,14 @@
 //! How a body comes to the chain: the reader of bodies is fed with what waits of the origin's bytes.
-ghost use Rattle.std.specs.Prelude.{◌≡◌, ◌≢◌, ◌++◌, [], true, false};
+ghost use Rattle.std.specs.Prelude.{◌≡◌, ◌≢◌, [], true, false};
 ghost use Rattle.ts_phases.specs.View.{GoesIf, is_dialed, side_if, view_of};
-ghost use Rattle.ts_relay.specs.Feeding.{DrainsOrigin, EndsHere, FeedsTo, GetsPart, OnGoes};
+ghost use Rattle.ts_relay.specs.Feeding.{DrainsOrigin, EndsHere, FeedsTo, GetsPart, OnGoes, short_if};
 ghost use Rattle.ts_relay.specs.Relaying.{IsNotSpent, StepsChain, set_by_part, set_by_stage};
 ghost use Rattle.ts_phases.specs.Holding.{StepKeeps};
-ghost use Rattle.ts_wire.specs.declared.body.BodyState.TheVariants.{Bad};
+ghost use Rattle.ts_wire.specs.declared.body.BodyState.TheVariants.{Ended, Unfinished};
 
 use crate::last_writes::BodyStep;
-use crate::relay::{Relay, step_after};
+use crate::relay::{Relay, Short, step_after};
 use ts_group::Cx;
-use ts_hooks::TxnEnd;
 use ts_iobuf::Waiting;
 use ts_link::Link;
 use ts_phases::{Core, Peer};
@@ -26,7 +25,7 @@ fn give_bytes<P: Transform + Drop>(
     requires turn { cx.old.log.state.held ≡ true }
     requires goes_on { driven.old.chain.given ≡ false }
     ensures gets { OnGoes result
-        (driven.new.chain ≡ record driven.old.chain { first = driven.old.chain.first ++ part.now }) }
+        (GetsPart Unfinished part.now driven.old.chain driven.new.chain) }
     ensures chain { StepsChain result set_by_stage driven.old driven.new cx.old cx.new }
     ensures spent { IsNotSpent result driven.new }
 {
@@ -48,8 +47,7 @@ pub fn close_input<P: Transform + Drop>(driven: &mut DrivenChain<P>, cx: &mut Cx
 fn give_last<P: Transform + Drop>(driven: &mut DrivenChain<P>, part: &[u8], cx: &mut Cx) -> BodyStep
     requires turn { cx.old.log.state.held ≡ true }
     requires goes_on { driven.old.chain.given ≡ false }
-    ensures gets { OnGoes result (driven.new.chain
-        ≡ record driven.old.chain { first = driven.old.chain.first ++ part.now; given = true }) }
+    ensures gets { OnGoes result (GetsPart Ended part.now driven.old.chain driven.new.chain) }
     ensures chain { StepsChain result set_by_part driven.old driven.new cx.old cx.new }
 {
     let BodyStep::Goes = give_bytes(driven, part, cx) else {
@@ -74,12 +72,23 @@ fn give_part<P: Transform + Drop>(
     match state {
         BodyState::Unfinished => give_bytes(driven, part, cx),
         BodyState::Ended => give_last(driven, part, cx),
-        BodyState::Bad => BodyStep::Goes,
+        BodyState::Bad => give_bytes(driven, part, cx),
+    }
+}
+
+// Whether no more of a body in this state comes: of a bad one, and where it was so before.
+fn short_if(state: BodyState, short: Option<Short>) -> Option<Short>
+    ensures { result ≡ short_if state short }
+{
+    match state {
+        BodyState::Bad => Some(Short::Bad),
+        BodyState::Unfinished => short,
+        BodyState::Ended => short,
     }
 }
 
 // Feeds the first block of what waits to the reader of bodies, and gives the chain the part of it that is
-// body. A bad one ends the transaction.
+// body. Behind a bad one no more of it comes.
 fn feed_some<P: Transform + Drop>(
     inbox: &mut Waiting,
     relay: &mut Relay<P>,
@@ -87,8 +96,7 @@ fn feed_some<P: Transform + Drop>(
 ) -> BodyStep
     requires turn { cx.old.log.state.held ≡ true }
     requires goes_on { relay.old.driven.chain.given ≡ false }
-    ensures feeds { FeedsTo result relay.old.body relay.new.body inbox.old inbox.new
-        relay.old.driven.chain relay.new.driven.chain }
+    ensures feeds { FeedsTo result relay.old relay.new inbox.old inbox.new }
     ensures chain { StepsChain result set_by_part relay.old.driven relay.new.driven cx.old cx.new }
     ensures reader { relay.new.reader ≡ relay.old.reader }
 {
@@ -101,11 +109,8 @@ fn feed_some<P: Transform + Drop>(
         return BodyStep::Lacks;
     };
     inbox.take(fed.taken);
-    match fed.state {
-        BodyState::Bad => BodyStep::Finishes(TxnEnd::OriginBad),
-        BodyState::Unfinished => BodyStep::Goes,
-        BodyState::Ended => BodyStep::Goes,
-    }
+    relay.short = short_if(fed.state, relay.short);
+    BodyStep::Goes
 }
 
 // The same with the bytes that wait of the origin's; where there is no origin, it is as if memory lacked.
@@ -116,8 +121,8 @@ fn feed_if<L: Link, P: Transform + Drop>(
 ) -> BodyStep
     requires turn { cx.old.log.state.held ≡ true }
     requires goes_on { relay.old.driven.chain.given ≡ false }
-    ensures feeds { FeedsTo result relay.old.body relay.new.body (side_if L.look origin.old).inbox
-        (side_if L.look origin.new).inbox relay.old.driven.chain relay.new.driven.chain }
+    ensures feeds { FeedsTo result relay.old relay.new (side_if L.look origin.old).inbox
+        (side_if L.look origin.new).inbox }
     ensures chain { StepsChain result set_by_part relay.old.driven relay.new.driven cx.old cx.new }
     ensures reader { relay.new.reader ≡ relay.old.reader }
     ensures side { side_if L.look origin.new
@@ -173,9 +178,8 @@ pub fn feed_body<C: Link, O: Upstream<C>, P: Transform + Drop>(
 ) -> BodyStep
     requires turn { cx.old.log.state.held ≡ true }
     requires goes_on { relay.old.driven.chain.given ≡ false }
-    ensures feeds { FeedsTo result relay.old.body relay.new.body
-        (view_of C.Link O.Link core.old).origin.inbox (view_of C.Link O.Link core.new).origin.inbox
-        relay.old.driven.chain relay.new.driven.chain }
+    ensures feeds { FeedsTo result relay.old relay.new
+        (view_of C.Link O.Link core.old).origin.inbox (view_of C.Link O.Link core.new).origin.inbox }
     ensures others { DrainsOrigin (view_of C.Link O.Link core.old) (view_of C.Link O.Link core.new) }
     ensures keeps { StepKeeps C.Link O.Link O.Upstream.own core.old core.new }
     ensures chain { StepsChain result set_by_part relay.old.driven relay.new.driven cx.old cx.new }

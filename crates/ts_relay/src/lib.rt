@@ -17,4 +17,4 @@ pub use closing::{close_relay, destroy_end};
 pub use entry::queue_relay;
 pub use events::{begin_body, handle_body};
 pub use last_writes::{BodyStep, send_rest};
-pub use relay::{MAIN, Relay};
+pub use relay::{MAIN, Relay, Short};

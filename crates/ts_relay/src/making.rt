@@ -22,7 +22,7 @@ fn fresh_parts<P: Transform<Line = TransformLine> + Drop>(
     status: u16,
     fields: &[Field],
 ) -> Result<Vec<P>, NoMemory>
-    requires { ActsAsLines P.whole }
+    requires { ActsAsLines P.Transform }
     ensures { IfOk result
         (λ parts. AreOfLines P.Transform (acting lines.now status fields.now) parts.items) }
 {
@@ -42,7 +42,7 @@ fn body_parts<P: Transform<Line = TransformLine> + Drop>(
     framing: Framing,
     head: &ResponseHead,
 ) -> Result<Vec<P>, NoMemory>
-    requires { ActsAsLines P.whole }
+    requires { ActsAsLines P.Transform }
     ensures { IfOk result
         (λ parts. AreOfLines P.Transform (if_body framing (lines_for setup.now head.now))
         parts.items) }
@@ -75,8 +75,8 @@ pub fn make_relay<P: Transform<Line = TransformLine> + Drop>(
     request: &RequestHead,
     head: &ResponseHead,
 ) -> Result<Relay<P>, NoMemory>
-    requires { ActsAsLines P.whole }
-    ensures fresh { IfOk result (IsFreshRelay P.rest setup.now request.now head.now) }
+    requires { ActsAsLines P.Transform }
+    ensures fresh { IfOk result (IsFreshRelay P.Transform setup.now request.now head.now) }
     ensures parts { IfOk result (λ r. IsOfParts P.Transform
         (body_lines setup.now request.now head.now) r.driven.chain) }
 {
@@ -88,5 +88,6 @@ pub fn make_relay<P: Transform<Line = TransformLine> + Drop>(
         driven: DrivenChain::make(alloc, chain),
         body,
         reader: None,
+        short: None,
     })
 }

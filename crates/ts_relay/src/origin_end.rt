@@ -1,13 +1,14 @@
 //! The steps that read a body from the origin: one read, or what waits is fed to the reader of bodies.
 ghost use Rattle.std.specs.Prelude.{◌≡◌, [], true, false};
-ghost use Rattle.ts_transform.specs.Flow.{MustRead};
+ghost use Rattle.ts_relay.specs.Duties.{MustReadOn};
 ghost use Rattle.ts_relay.specs.StepsOwed.{ReaderSteps, EndLowers};
 ghost use Rattle.ts_phases.specs.View.{view_of};
 ghost use Rattle.ts_relay.specs.Relaying.{RelayHolds, RelayLeads};
 
+use crate::duties::must_read_on;
 use crate::feed::{close_input, ends_here, feed_body, holds_body};
 use crate::last_writes::BodyStep;
-use crate::relay::Relay;
+use crate::relay::{Relay, Short};
 use ts_group::Cx;
 use ts_hooks::TxnEnd;
 use ts_link::Link;
@@ -24,14 +25,14 @@ fn pull_relay<C: Link, O: Upstream<C>, P: Transform + Drop>(
 ) -> BodyStep
     requires turn { cx.old.log.state.held ≡ true }
     requires fact { RelayHolds C.Link O.Link O.Upstream.own P.Transform core.old relay.old }
-    requires goes_on { MustRead relay.old.driven.chain }
+    requires goes_on { MustReadOn relay.old }
     requires empty { (view_of C.Link O.Link core.old).origin.inbox ≡ [] }
     ensures leads { RelayLeads C.Link O.Link O.Upstream.own P.Transform core.old core.new
         relay.new result }
     ensures steps { ReaderSteps C.Link O.Link O.Upstream.own core.old core.new result
         relay.old relay.new cx.old cx.new }
     ensures lowers { EndLowers C.Link O.Link P.Transform core.old core.new
-        (MustRead relay.old.driven.chain) result relay.old relay.new cx.old cx.new }
+        (MustReadOn relay.old) result relay.old relay.new cx.old cx.new }
 {
     let pulled = match core.read_origin() {
         Ok(pulled) => pulled,
@@ -42,16 +43,17 @@ fn pull_relay<C: Link, O: Upstream<C>, P: Transform + Drop>(
         Pulled::Again => BodyStep::Waits,
         Pulled::Failed => BodyStep::Finishes(TxnEnd::OriginFault),
         Pulled::End => {
-            if !ends_here(&relay.body) {
-                return BodyStep::Finishes(TxnEnd::OriginCut);
+            if ends_here(&relay.body) {
+                return close_input(&mut relay.driven, cx);
             }
-            close_input(&mut relay.driven, cx)
+            relay.short = Some(Short::Cut);
+            BodyStep::Goes
         }
     }
 }
 
-/// Makes one step of the reader, unless the body is over or too much of it waits: it feeds the reader of
-/// bodies with what waits of the origin's bytes, or reads on.
+/// Makes one step of the reader, unless no more of the body comes, or the chain wants no more or has no room
+/// for it: it feeds the reader of bodies with what waits of the origin's bytes, or reads on.
 pub fn read_body<C: Link, O: Upstream<C>, P: Transform + Drop>(
     core: &mut Core<C, O>,
     relay: &mut Relay<P>,
@@ -64,10 +66,9 @@ pub fn read_body<C: Link, O: Upstream<C>, P: Transform + Drop>(
     ensures steps { ReaderSteps C.Link O.Link O.Upstream.own core.old core.new result
         relay.old relay.new cx.old cx.new }
     ensures lowers { EndLowers C.Link O.Link P.Transform core.old core.new
-        (MustRead relay.old.driven.chain) result relay.old relay.new cx.old cx.new }
+        (MustReadOn relay.old) result relay.old relay.new cx.old cx.new }
 {
-    let reads = relay.driven.chain().must_read();
-    if !reads {
+    if !must_read_on(relay) {
         return BodyStep::Goes;
     }
     if holds_body(core) {

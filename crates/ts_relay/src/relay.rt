@@ -1,9 +1,10 @@
 //! A body that is passed on: its chain, where its reader stands, and the continuation that reads.
 ghost use Rattle.std.specs.Prelude.{◌≡◌};
-ghost use Rattle.ts_relay.specs.Relaying.{step_after};
+ghost use Rattle.ts_relay.specs.Relaying.{short_end, step_after};
 
 use crate::last_writes::BodyStep;
 use ts_group::SetFault;
+use ts_hooks::TxnEnd;
 use ts_transform::{DrivenChain, StageContinuation};
 use ts_wire::BodyReader;
 
@@ -16,6 +17,25 @@ pub const READER: u32 = 2;
 /// The role of the first stage of the chain that a body goes through; those of the others follow.
 pub const FIRST: u32 = 3;
 
+/// Why no more of a body comes, though it has not ended.
+#[derive(Clone, Copy, PartialEq, Eq)]
+pub enum Short {
+    /// The origin ended in the middle of it.
+    Cut,
+    /// It broke its framing.
+    Bad,
+}
+
+/// The end of a transaction whose body stopped short, unless its chain finishes first.
+pub fn short_end(short: Short) -> TxnEnd
+    ensures { result ≡ short_end short }
+{
+    match short {
+        Short::Cut => TxnEnd::OriginCut,
+        Short::Bad => TxnEnd::OriginBad,
+    }
+}
+
 /// A body that is passed on.
 #[derive(Drop)]
 pub struct Relay<P> {
@@ -25,6 +45,8 @@ pub struct Relay<P> {
     pub body: BodyReader,
     /// The continuation that reads on.
     pub reader: Option<StageContinuation>,
+    /// Whether no more of the body comes though it has not ended, and why.
+    pub short: Option<Short>,
 }
 
 /// Where a step leads at which an event was set, or could not be.

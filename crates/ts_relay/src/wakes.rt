@@ -4,6 +4,7 @@ ghost use Rattle.ts_transform.specs.Driving.{IsNamedIf, IsRousingOf, SetsOnly};
 ghost use Rattle.ts_relay.specs.BodyLinks.{OnlyOfEnds};
 ghost use Rattle.ts_relay.specs.Duties.{EndsRouse, RousesBoth, RousesOne};
 
+use crate::duties::must_read_on;
 use crate::last_writes::BodyStep;
 use crate::relay::{Relay, step_after};
 use ts_group::Cx;
@@ -54,6 +55,6 @@ pub fn rouse_ends<P: Transform + Drop>(
     ensures due { OnlyOfEnds pauses.0 pauses.1 main.old relay.old.reader cx.old cx.new }
     ensures relay { relay.new ≡ record relay.old { reader = relay.new.reader } }
 {
-    let reads = relay.driven.chain().must_read();
+    let reads = must_read_on(relay);
     rouse_two(main, &mut relay.reader, writes, reads, pauses, cx)
 }

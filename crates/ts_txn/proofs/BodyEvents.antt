@@ -61,13 +61,13 @@ module _ {C O Q : Type 0} (client : link.Ghosts C) (origin : link.Ghosts O) (bot
         let w = view_of client origin new in
         sound_led client origin both stage core new (K.Relaying r) (course_after s step) result u b
         called.sound.stands handles.keeps
-        (λ told also. led_on (arc_value core.setup) (OriginRefuses client both core) stage.rest w s step
+        (λ told also. led_on (arc_value core.setup) (OriginRefuses client both core) stage w s step
         (leads told also))
         (lines_after (arc_value core.setup) stage.rest step r s pays.lines called.sound.stands.lines)
         (λ told also. little_after v w step r s handles.links.minds.holds
         (called.sound.stands.little told also))
         (body_cause client origin both core new handles.keeps called.sound.stands.causes client.tells
-        origin.tells r.driven.chain s.driven.chain s step handles.links.client_late handles.links.origin_late
+        origin.tells r s step handles.links.client_late handles.links.origin_late
         handles.links.minds)
         (after_led step (course_after s step) result left.led)
         (left.covered w (stands_handled _ v main a role event called step w mid r s m called.sound.covered

@@ -18,7 +18,6 @@ use Rattle.ts_relay.specs.Entering.{CallsNeither}
 use Rattle.ts_relay.specs.declared.last_writes.BodyStep.{BodyStep}
 use Rattle.ts_relay.specs.declared.last_writes.BodyStep.TheVariants as S
 use Rattle.ts_relay.specs.declared.relay.Relay.{Relay}
-use Rattle.ts_transform.specs.Flow.{ChainState}
 use Rattle.ts_txn.specs.Course.{StandsForCauseOn, course_after, finish_after}
 use Rattle.ts_txn.specs.CourseCover.{StaysOnOrLacks}
 use Rattle.ts_txn.specs.declared.course.Course.{Course}
@@ -82,10 +81,10 @@ module _ {C O : Type 0} (client : link.Ghosts C) (origin : link.Ghosts O) (both 
     closes_cause E.OriginFault k other rose = failed_now v.origin w.origin k.origin rose has.origin
     closes_cause _ k client_counted origin_counted = tt
 
-    pub body_cause : {Q : Type 0} (ct ot : Bool) (c d : ChainState Q) (r : Relay Q) (step : BodyStep)
-        (client_late origin_late : Bool) → MindsBody ct ot v w c d step client_late origin_late
+    pub body_cause : {Q : Type 0} (ct ot : Bool) (q r : Relay Q) (step : BodyStep)
+        (client_late origin_late : Bool) → MindsBody ct ot v w q r step client_late origin_late
         → StandsForCauseOn w (course_after r step)
-    body_cause ct ot c d r step client_late origin_late minds = by_step step minds.client.faults
+    body_cause ct ot q r step client_late origin_late minds = by_step step minds.client.faults
         minds.origin.faults
       where
         by_step : (step : BodyStep)

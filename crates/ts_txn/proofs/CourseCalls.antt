@@ -181,8 +181,9 @@ module _ {Q : Type 0} (Sound : State → List Named → Type 0) (v : View) (main
 
 -- ---- a body begins
 
-pub stands_begun : {Q : Type 0} (step : BodyStep) (w : View) (t u : Option StageContinuation) (s : Relay Q)
-    (a b : Context) → IsOrderly a → BeginsBody step w t u s a b → IsAlone t a → StandsBehind step w u s b
+pub stands_begun : {Q : Type 0} {stages : ℕ} (step : BodyStep) (w : View) (t u : Option StageContinuation)
+    (s : Relay Q) (a b : Context) → IsOrderly a → BeginsBody step stages w t u s a b → IsAlone t a
+    → StandsBehind step w u s b
 stands_begun step w t u s a b orderly h alone = record {
   seated = h.seated [] alone.seated;
   plain = h.acts.plain alone.plain;

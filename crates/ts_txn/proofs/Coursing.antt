@@ -7,6 +7,7 @@ use Rattle.ts_hooks.specs.declared.txn_end.TxnEnd.TheVariants as E
 use Rattle.ts_link.specs.declared.link.Link as link
 use Rattle.ts_upstream.specs.declared.upstream.Upstream as upstream
 use Rattle.ts_transform.specs.Flow.{ChainState}
+use Rattle.ts_transform.specs.declared.transform.Transform as transform
 use Rattle.ts_wire.specs.Place.{Place}
 use Rattle.ts_relay.specs.Entering.{EntersBody}
 use Rattle.ts_phases.specs.View.{OriginRefuses, View, refuses_if, view_of}
@@ -30,42 +31,43 @@ use Rattle.ts_relay.proofs.Finished.{finishing_any}
 use Rattle.ts_relay.proofs.Relaying.{relays_lacks}
 use Rattle.ts_relay.proofs.Settled.{entering, finishing, phase_fact, relaying}
 
-module _ (setup : Setup) (refuses : Type 0) {Q : Type 0} (rest : Q → List ℕ → List ℕ) (v : View) where
+module _ (setup : Setup) (refuses : Type 0) {Q L : Type 0} (stage : transform.Ghosts Q L) (v : View) where
   -- a step of a body
   pub led_on : (r : Relay Q) (step : BodyStep)
-      → LeadsBody setup refuses (RelaysBody setup refuses rest v r.driven.chain r.body) v step
-      → CourseFact setup refuses rest v (course_after r step)
+      → LeadsBody setup refuses (RelaysBody setup refuses stage v r.driven.chain r.body r.short) v step
+      → CourseFact setup refuses stage v (course_after r step)
   led_on r S.Goes h = h
   led_on r _ h = h
 
   -- and of its last writes
   pub led_last : (end : TxnEnd) (step : BodyStep)
       → LeadsBody setup refuses (IsFinishing setup refuses v end) v step
-      → CourseFact setup refuses rest v (finish_after end step)
+      → CourseFact setup refuses stage v (finish_after end step)
   led_last end S.Goes h = h
   led_last end _ h = h
 
 -- wherever it is, it may end for want of memory
-course_lacks : (setup : Setup) (refuses : Type 0) {Q : Type 0} (rest : Q → List ℕ → List ℕ) (v : View)
-    (course : Course Q) → CourseFact setup refuses rest v course → EndFact setup refuses v E.NoMemory
-course_lacks setup refuses rest v (K.Phased p) h = lacks_memory setup refuses v (always setup refuses v p h)
-course_lacks setup refuses rest v (K.Relaying r) h = relays_lacks setup refuses rest v r.driven.chain r.body h
-course_lacks setup refuses rest v (K.Finishing end) h = lacks_memory setup refuses v
+course_lacks : (setup : Setup) (refuses : Type 0) {Q L : Type 0} (stage : transform.Ghosts Q L) (v : View)
+    (course : Course Q) → CourseFact setup refuses stage v course → EndFact setup refuses v E.NoMemory
+course_lacks setup refuses stage v (K.Phased p) h = lacks_memory setup refuses v (always setup refuses v p h)
+course_lacks setup refuses stage v (K.Relaying r) h = relays_lacks setup refuses stage r.short v
+    r.driven.chain r.body h
+course_lacks setup refuses stage v (K.Finishing end) h = lacks_memory setup refuses v
     (finishing_any setup refuses v end h)
 
 -- what holds whatever the end, wherever it is
-pub course_any : (setup : Setup) (refuses : Type 0) {Q : Type 0} (rest : Q → List ℕ → List ℕ) (v : View)
-    (course : Course Q) → CourseFact setup refuses rest v course → AnyEnd setup refuses v
-course_any setup refuses rest v course h = (course_lacks setup refuses rest v course h).any
+pub course_any : (setup : Setup) (refuses : Type 0) {Q L : Type 0} (stage : transform.Ghosts Q L) (v : View)
+    (course : Course Q) → CourseFact setup refuses stage v course → AnyEnd setup refuses v
+course_any setup refuses stage v course h = (course_lacks setup refuses stage v course h).any
 
 -- and so it may where its next event is set
-pub stays_on : (setup : Setup) (refuses : Type 0) {Q : Type 0} (rest : Q → List ℕ → List ℕ) (v : View)
-    (old new : Course Q) → CourseFact setup refuses rest v old → StaysOnOrLacks old new
-    → CourseFact setup refuses rest v new
-stays_on setup refuses rest v old new h (inl same) = subst (λ x. CourseFact setup refuses rest v x) (sym same)
-    h
-stays_on setup refuses rest v old new h (inr lacks) = subst (λ x. CourseFact setup refuses rest v x)
-    (sym lacks) (course_lacks setup refuses rest v old h)
+pub stays_on : (setup : Setup) (refuses : Type 0) {Q L : Type 0} (stage : transform.Ghosts Q L) (v : View)
+    (old new : Course Q) → CourseFact setup refuses stage v old → StaysOnOrLacks old new
+    → CourseFact setup refuses stage v new
+stays_on setup refuses stage v old new h (inl same) = subst (λ x. CourseFact setup refuses stage v x)
+    (sym same) h
+stays_on setup refuses stage v old new h (inr lacks) = subst (λ x. CourseFact setup refuses stage v x)
+    (sym lacks) (course_lacks setup refuses stage v old h)
 
 -- so it may where an event may have been set
 pub behind_led : {Q : Type 0} (next : Next) (led new : Course Q) → LedBehind next led new
@@ -80,21 +82,21 @@ after_led S.Waits led new h = inl h
 after_led _ led new h = h
 
 course_moved : (setup : Setup) (R T : Type 0) → (R → T) → (T → R)
-    → {Q : Type 0} (rest : Q → List ℕ → List ℕ) (v : View) (course : Course Q)
-    → CourseFact setup R rest v course → CourseFact setup T rest v course
-course_moved setup R T to from rest v (K.Phased p) h = phase_fact setup R T to from v p h
-course_moved setup R T to from rest v (K.Relaying r) h = relaying setup R T from rest v r.driven.chain r.body
-    h
-course_moved setup R T to from rest v (K.Finishing end) h = finishing setup R T to from v end h
+    → {Q L : Type 0} (stage : transform.Ghosts Q L) (v : View) (course : Course Q)
+    → CourseFact setup R stage v course → CourseFact setup T stage v course
+course_moved setup R T to from stage v (K.Phased p) h = phase_fact setup R T to from v p h
+course_moved setup R T to from stage v (K.Relaying r) h = relaying setup R T from stage v r.driven.chain
+    r.body r.short h
+course_moved setup R T to from stage v (K.Finishing end) h = finishing setup R T to from v end h
 
-pub course_settled : {C O Q : Type 0} (client : link.Ghosts C) (origin : link.Ghosts O)
-    (both : upstream.Ghosts O C) (rest : Q → List ℕ → List ℕ) (old new : Core C O)
+pub course_settled : {C O Q L : Type 0} (client : link.Ghosts C) (origin : link.Ghosts O)
+    (both : upstream.Ghosts O C) (stage : transform.Ghosts Q L) (old new : Core C O)
     (course : Course Q) → StepKeeps client origin both old new
-    → CourseFact (arc_value old.setup) (OriginRefuses client both old) rest (view_of client origin new)
+    → CourseFact (arc_value old.setup) (OriginRefuses client both old) stage (view_of client origin new)
     course
-    → CourseFact (arc_value new.setup) (OriginRefuses client both new) rest (view_of client origin new)
+    → CourseFact (arc_value new.setup) (OriginRefuses client both new) stage (view_of client origin new)
     course
-course_settled client origin both rest old new course keeps h =
+course_settled client origin both stage old new course keeps h =
     let v = view_of client origin new in
     let to : OriginRefuses client both old → OriginRefuses client both new = λ r.
     subst (λ (c : List ℕ). refuses_if both.refuses new.origin c) (sym keeps.client.source)
@@ -102,23 +104,23 @@ course_settled client origin both rest old new course keeps h =
     let from : OriginRefuses client both new → OriginRefuses client both old = λ r.
     keeps.refusal.before _ (subst (λ (c : List ℕ). refuses_if both.refuses new.origin c) keeps.client.source
     r) in
-    subst (λ s. CourseFact (arc_value s) (OriginRefuses client both new) rest v course) (sym keeps.setup)
+    subst (λ s. CourseFact (arc_value s) (OriginRefuses client both new) stage v course) (sym keeps.setup)
     (course_moved (arc_value old.setup) (OriginRefuses client both old) (OriginRefuses client both new)
-    to from rest v course h)
+    to from stage v course h)
 
 -- a body whose head is queued
-pub enters_settled : {C O Q : Type 0} (client : link.Ghosts C) (origin : link.Ghosts O)
-    (both : upstream.Ghosts O C) (rest : Q → List ℕ → List ℕ) (old new : Core C O)
+pub enters_settled : {C O Q L : Type 0} (client : link.Ghosts C) (origin : link.Ghosts O)
+    (both : upstream.Ghosts O C) (stage : transform.Ghosts Q L) (old new : Core C O)
     (c : ChainState Q) (place : Place) → StepKeeps client origin both old new
-    → EntersBody (arc_value old.setup) (OriginRefuses client both old) rest (view_of client origin new) c
+    → EntersBody (arc_value old.setup) (OriginRefuses client both old) stage (view_of client origin new) c
     place
-    → EntersBody (arc_value new.setup) (OriginRefuses client both new) rest (view_of client origin new) c
+    → EntersBody (arc_value new.setup) (OriginRefuses client both new) stage (view_of client origin new) c
     place
-enters_settled client origin both rest old new c place keeps h =
+enters_settled client origin both stage old new c place keeps h =
     let v = view_of client origin new in
     let from : OriginRefuses client both new → OriginRefuses client both old = λ r.
     keeps.refusal.before _ (subst (λ (c : List ℕ). refuses_if both.refuses new.origin c) keeps.client.source
     r) in
-    subst (λ s. EntersBody (arc_value s) (OriginRefuses client both new) rest v c place) (sym keeps.setup)
+    subst (λ s. EntersBody (arc_value s) (OriginRefuses client both new) stage v c place) (sym keeps.setup)
     (entering (arc_value old.setup) (OriginRefuses client both old) (OriginRefuses client both new) from
-    rest v c place h)
+    stage v c place h)

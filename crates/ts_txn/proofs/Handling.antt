@@ -145,7 +145,7 @@ module _ {C O Q : Type 0} (client : link.Ghosts C) (origin : link.Ghosts O) (bot
       subst (λ k. IsSoundNow client origin both stage k u.main u.course b) (sym same)
       (record {
         stands = record {
-          holds = λ told also. stays_on (arc_value t.core.setup) (OriginRefuses client both t.core) stage.rest
+          holds = λ told also. stays_on (arc_value t.core.setup) (OriginRefuses client both t.core) stage
               (view_of client origin t.core) (K.Phased P.TxnStart) u.course (was told also) led;
           pair = h.stands.pair;
           acts = h.stands.acts;
@@ -235,7 +235,7 @@ module _ {C O Q : Type 0} (client : link.Ghosts C) (origin : link.Ghosts O) (bot
       → HoldsOn client origin both stage s old
       → StepKeeps client origin both s t
       → IfTold client.tells origin.tells (CourseFact (arc_value s.setup) (OriginRefuses client both s)
-      stage.rest
+      stage
       (view_of client origin t) led)
       → IsOfLinesOn (arc_value s.setup) stage.rest led
       → IfTold client.tells origin.tells (HoldsLittleOn (view_of client origin t) led)
@@ -244,8 +244,8 @@ module _ {C O Q : Type 0} (client : link.Ghosts C) (origin : link.Ghosts O) (bot
       → IsSoundNow client origin both stage t u new b
   sound_led s t old led new u b stands keeps fact lines little causes stays covered =
       sound_here s t old new u b stands keeps
-      (λ told also. course_settled client origin both stage.rest s t new keeps
-      (stays_on (arc_value s.setup) (OriginRefuses client both s) stage.rest (view_of client origin t) led new
+      (λ told also. course_settled client origin both stage s t new keeps
+      (stays_on (arc_value s.setup) (OriginRefuses client both s) stage (view_of client origin t) led new
       (fact told also) stays))
       (subst (λ x. IsOfLinesOn (arc_value x) stage.rest new) (sym keeps.setup)
       (lines_stay (arc_value s.setup) stage.rest led new lines stays))

@@ -70,7 +70,7 @@ stays_covered step r t a is v stands = record {
 }
   where
     by_duties : IsBodyJoined t r a.log.state.pending a.roles → IsBodyCovered v t r a.log.state.next
-        → EndsInOrder r.driven.chain.given r.driven.chain.stages
+        → EndsInOrder true r.driven.chain.stages
         → BodyHasEvents v t r a.log.state.pending a.roles ⊎ (GREATEST ≤ a.log.state.next)
     by_duties joined (inl (runs, ends)) ordered =
         inl (record { runs = runs; joined = joined runs; ends = ends; ordered = ordered })

@@ -3,8 +3,10 @@
 -- that is handled lowers its number.
 use Rattle.std.proofs.Common.{zero-le, ◌≡◌, ◌⊎◌, inl, inr, ℕ, ◌+◌, ◌≤◌, List, length, Bool, true, false}
 use Rattle.std.proofs.Common.{arith, refl, sym, ap, subst}
+use Rattle.std.proofs.Math.Nat.{le_trans}
 use Rattle.std.specs.Prelude.{◌&&◌, Option, Some, None}
 use Rattle.std.specs.Arc.{arc_value}
+use Rattle.ts_config.specs.Bytes.{most_transforms}
 use Rattle.ts_config.specs.declared.setup.Setup.{Setup}
 use Rattle.ts_hooks.specs.declared.txn_end.TxnEnd.{TxnEnd}
 use Rattle.ts_hooks.specs.declared.txn_end.TxnEnd.TheVariants as E
@@ -26,14 +28,15 @@ use Rattle.ts_txn.specs.Course.{course_after, finish_after}
 use Rattle.ts_transform.specs.declared.continuation.StageContinuation.{StageContinuation}
 use Rattle.ts_txn.specs.CourseCover.{BodyHasEvents, IsCoveredOn, StaysOnOrLacks}
 use Rattle.ts_phases.specs.Cover.{set_after}
-use Rattle.ts_relay.specs.Duties.{set_leaving, IsBodyCovered, WhileGoes}
+use Rattle.ts_relay.specs.Duties.{set_by_beginning, set_leaving, IsBodyCovered, WhileGoes}
 use Rattle.ts_phases.specs.Holding.{IfTold}
-use Rattle.ts_phases.specs.Lowering.{StepFalls, agains_left, enter_left, enter_work, events_paid, if_told}
+use Rattle.ts_phases.specs.Lowering.{StepFalls, agains_left, enter_left, enter_work, if_told}
 use Rattle.ts_phases.specs.Lowering.{number_left, phase_work, upload_in, work_left}
 use Rattle.ts_relay.specs.LoweringBody.{IsOfLines, StaysOfLines, ended_left, finish_left, left_after}
-use Rattle.ts_relay.specs.LoweringBody.{rest_after, unbegun_left}
+use Rattle.ts_relay.specs.LoweringBody.{begin_room, rest_after, unbegun_left}
 use Rattle.ts_txn.specs.LoweringCourse.{IsOfLinesOn, course_left, number_if, parts_left, transaction_left}
 use Rattle.ts_phases.specs.View.{View, upload_of, view_of}
+use Rattle.ts_txn.specs.World.{most_set}
 use Rattle.ts_txn.specs.declared.course.Course.{Course}
 use Rattle.ts_txn.specs.declared.course.Course.TheVariants as K
 use Rattle.ts_relay.specs.declared.last_writes.BodyStep.{BodyStep}
@@ -69,19 +72,18 @@ ended_step : (next : Next) (m m' upload : Option ℕ) (f : ℕ → ℕ → ℕ) 
 ended_step N.Done m m' upload f kept = ended_no_more m m' upload f kept
 ended_step _ m m' upload f fell = ended_if m m' upload f fell
 
--- fewer, and then no more, is fewer
-fewer_then : (m n k : Option ℕ) → Fewer m n → NoMore n k → Fewer m k
-fewer_then None n k fell kept = tt
-fewer_then (Some x) None k fell kept = absurd fell
-fewer_then (Some x) (Some y) None fell kept = absurd kept
-fewer_then (Some x) (Some y) (Some z) fell kept = omega (arith, fell, kept)
+-- what falls by so much, and then is no more, falls by as much; and so does what is no more and then falls
+falls_then : (m n k : Option ℕ) (by : ℕ) → Falls m by n → NoMore n k → Falls m by k
+falls_then None n k by fell kept = tt
+falls_then (Some x) None k by fell kept = absurd fell
+falls_then (Some x) (Some y) None by fell kept = absurd kept
+falls_then (Some x) (Some y) (Some z) by fell kept = omega (arith, fell, kept)
 
--- no more, and then fewer, is fewer; and no more than that is no more
-then_fewer : (m n k : Option ℕ) → NoMore m n → Fewer n k → Fewer m k
-then_fewer None n k kept fell = tt
-then_fewer (Some x) None k kept fell = absurd kept
-then_fewer (Some x) (Some y) None kept fell = absurd fell
-then_fewer (Some x) (Some y) (Some z) kept fell = omega (arith, kept, fell)
+then_falls : (m n k : Option ℕ) (by : ℕ) → NoMore m n → Falls n by k → Falls m by k
+then_falls None n k by kept fell = tt
+then_falls (Some x) None k by kept fell = absurd kept
+then_falls (Some x) (Some y) None by kept fell = absurd fell
+then_falls (Some x) (Some y) (Some z) by kept fell = omega (arith, kept, fell)
 
 then_none : (m n k : Option ℕ) → NoMore m n → NoMore n k → NoMore m k
 then_none None n k kept none = tt
@@ -92,8 +94,15 @@ then_none (Some x) (Some y) (Some z) kept none = omega (arith, kept, none)
 plus_none : (a b k : ℕ) → a ≤ b + k → a + 0 ≤ b + k
 plus_none a b k few = omega (arith, few)
 
-five_paid : (a b k : ℕ) → b ≤ a + 4 → k ≤ 1 → b + k ≤ a + events_paid
-five_paid a b k few one = omega (arith, few, one)
+-- the events of a beginning, with one where the body is left at once, are paid by what it lowers
+begin_paid : (before mid : List Pending) (m n : Option ℕ) (more stages : ℕ) → Falls m begin_room n
+    → length mid ≤ length before + set_by_beginning stages → stages ≤ most_transforms → more ≤ 1
+    → Falls (number_left before m) more (number_left mid n)
+begin_paid before mid None n more stages fell set few one = tt
+begin_paid before mid (Some x) None more stages fell set few one = absurd fell
+begin_paid before mid (Some x) (Some y) more stages fell set few one =
+    let room : y + begin_room ≤ x = fell in
+    omega (arith, room, set, few, one)
 
 module _ {Q : Type 0} (setup : Setup) (rest : Q → List ℕ → List ℕ) where
   -- ---- a step of a body, and where it leads
@@ -149,17 +158,19 @@ module _ {Q : Type 0} (setup : Setup) (rest : Q → List ℕ → List ℕ) where
 
   module _ (m : Option ℕ) (v w : View) (kept : NoMore m (enter_left setup v)) where
     pub begun_led : (step : BodyStep) (r s : Relay Q) (result : Course Q) (upload : Option ℕ)
-        (before mid now : List Pending) → Fewer (enter_left setup v) (unbegun_left setup rest w r)
+        (before mid now : List Pending) (stages : ℕ)
+        → Falls (enter_left setup v) begin_room (unbegun_left setup rest w r)
         → NoMore (unbegun_left setup rest w r) (left_after setup rest step w s)
-        → length mid ≤ length before + 4 → StaysOnOrLacks (course_after s step) result
+        → length mid ≤ length before + set_by_beginning stages → stages ≤ most_transforms
+        → StaysOnOrLacks (course_after s step) result
         → length now ≤ length mid + set_leaving step
         → Falls (number_left before m) 0 (number_left now (course_left setup rest upload w result))
-    begun_led step r s result upload before mid now fell stays few led behind =
+    begun_led step r s result upload before mid now stages fell stays set few led behind =
         body_led step s result w upload before mid now m led
-        (paid_fewer before mid m (left_after setup rest step w s) (set_leaving step)
-        (fewer_then m (unbegun_left setup rest w r) (left_after setup rest step w s)
-        (then_fewer m (enter_left setup v) (unbegun_left setup rest w r) kept fell) stays)
-        (five_paid (length before) (length mid) (set_leaving step) few (set_one step))) behind
+        (begin_paid before mid m (left_after setup rest step w s) (set_leaving step) stages
+        (falls_then m (unbegun_left setup rest w r) (left_after setup rest step w s) begin_room
+        (then_falls m (enter_left setup v) (unbegun_left setup rest w r) begin_room kept fell) stays)
+        set few (set_one step)) behind
 
     -- memory lacked for its head
     pub not_begun : (upload : Option ℕ) (before now : List Pending)
@@ -234,6 +245,16 @@ module _ {Q : Type 0} (setup : Setup) (rest : Q → List ℕ → List ℕ) where
       (step_pays before now step.next (work_left setup upload v p) (ended_left w)
       (ended_step step.next (work_left setup upload v p) (agains_left w) (upload_in upload_then step.phase)
       (λ x y. phase_work setup x y w step.phase) fell) few)
+
+-- ---- the events of a beginning
+
+pub few_stages : {stages lines : ℕ} → stages ≤ lines → lines ≤ most_transforms → stages ≤ most_transforms
+few_stages few within = le_trans few within
+
+-- with the one where the body is left, they are no more than a transaction sets
+pub begin_within : (stages more : ℕ) → stages ≤ most_transforms → more ≤ 1
+    → set_by_beginning stages + more ≤ most_set
+begin_within stages more few one = omega (arith, few, one)
 
 -- ---- in the group
 

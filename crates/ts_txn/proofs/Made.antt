@@ -98,7 +98,7 @@ module _ {C O Q : Type 0} (client : link.Ghosts C) (origin : link.Ghosts O) (c :
         → (client.tells ≡ true → IsNewLink (client.look c))
         → (origin.tells ≡ true → IsNewLinkIf origin.look o)
         → ArePaired both.paired c o
-        → ActsAsLines stage.whole
+        → ActsAsLines stage
         → IsTxnSetup (arc_value t.core.setup) t.core.plugins_at → HasTable t.core
         → t.course ≡ K.Phased P.Fresh → t.main ≡ None → t.core.sent.head ≡ 0 → t.core.sent.mode ≡ M.Plain
         → t.core.sent.cuts.items ≡ []

@@ -125,12 +125,12 @@ module _ {C O Q : Type 0} (client : link.Ghosts C) (origin : link.Ghosts O) (bot
   sends_once pending next roles sound told also =
       take_once (arc_value t.core.setup) sound.stands.setup.plain (OriginRefuses client both t.core)
       (view_of client origin t.core)
-      (course_any (arc_value t.core.setup) (OriginRefuses client both t.core) stage.rest
+      (course_any (arc_value t.core.setup) (OriginRefuses client both t.core) stage
       (view_of client origin t.core) t.course (sound.stands.holds told also))
 
   pub sends_request_first : (pending : List Pending) (next : ℕ) (roles : List Named)
       → IsSoundTxn client origin both stage t pending next roles → TxnSendsRequestFirst client origin t
   sends_request_first pending next roles sound told also =
       request_first (arc_value t.core.setup) (OriginRefuses client both t.core) (view_of client origin t.core)
-      (course_any (arc_value t.core.setup) (OriginRefuses client both t.core) stage.rest
+      (course_any (arc_value t.core.setup) (OriginRefuses client both t.core) stage
       (view_of client origin t.core) t.course (sound.stands.holds told also)).text

@@ -5,6 +5,7 @@ use Rattle.std.proofs.Common.{cond, All, Option, Some, None, Result, Ok, Err, ap
 use Rattle.std.proofs.Common.{ap, sym, subst, refl, arith}
 use Rattle.std.specs.Prelude.{◌||◌}
 use Rattle.std.specs.List.{filter, list_any}
+use Rattle.std.proofs.lemmas.Bool.{false≢true}
 use Rattle.std.proofs.lemmas.List.{length-take}
 use Rattle.std.proofs.lemmas.List.Elements.{All-cons, All-head, All-nil}
 use Rattle.ts_config.specs.declared.setup.Setup.{Setup}
@@ -27,14 +28,14 @@ use Rattle.ts_block.specs.declared.block.Block.{Block}
 use Rattle.ts_block.specs.declared.own_answer.OwnStatus.{OwnStatus}
 use Rattle.ts_block.specs.declared.own_answer.OwnStatus.TheVariants as O
 use Rattle.ts_block.specs.Acting.{acts_on}
-use Rattle.ts_block.specs.Block.{AnswerSays, lacking, passed_on, BodySays, bad, cut, ended, EndsWith}
+use Rattle.ts_block.specs.Block.{AnswerSays, lacking, passed_on, BodySays, bad, cut, early, ended, EndsWith}
 use Rattle.ts_block.specs.Block.{DenySays, DialSays, VerdictSays, IsBlock, asked, no_head, silent}
 use Rattle.ts_block.specs.Block.{body_lines, framing_for, is_acted_on, lines_for, own_block}
 use Rattle.ts_block.specs.Heads.{HasRequest}
 use Rattle.ts_block.specs.Own.{code_of, own_body, own_refusal, own_sent}
 use Rattle.ts_block.specs.Relayed.{asks_head, client_framing, framing_of, if_body, length_told, open_framing, reads_chunks}
 use Rattle.ts_block.proofs.OneHead.{one_request}
-use Rattle.ts_config.specs.Bodies.{compose_lines}
+use Rattle.ts_config.specs.Bodies.{compose_lines, is_early}
 use Rattle.ts_phases.specs.Ends.{IsFrontThrough, Relayed}
 use Rattle.ts_phases.specs.Facts.{HasOwnCause}
 use Rattle.ts_phases.specs.Facts as facts
@@ -200,8 +201,11 @@ module _ (setup : Setup) (q : RequestHead) (to_head : asks_head q ≡ true) wher
     where
       by_body : BodySays setup request q h rest b → b.body ≡ []
       by_body (ended body ends is) = ap (λ (x : Block). x.body) is ∙ body_none h rest body ends
-      by_body (cut body short is) = ap (λ (x : Block). x.body) is
-      by_body (bad body wrong is) = ap (λ (x : Block). x.body) is
+      by_body (early front more read state cuts reads soon is) =
+          absurd (false≢true
+          (sym (ap (λ ls. is_early ls read) (lines_none setup q h (head_framed h))) ∙ soon))
+      by_body (cut body short late is) = ap (λ (x : Block). x.body) is
+      by_body (bad body wrong late is) = ap (λ (x : Block). x.body) is
 
   module _ (dialed : Bool) (refuses : Type 0) (o : List ℕ) where
     dial_none : (d : Bool) (request : List ℕ) (b : Block) → DialSays setup dialed refuses o d request q b

@@ -1,6 +1,5 @@
 -- What holds of a transaction by how far it is, where its links tell: in a phase up to the client's head or
 -- at its close, while a body is passed on, and while the last of it is written.
-use Rattle.std.specs.Prelude.{ℕ, List}
 use Rattle.std.specs.Arc.{arc_value}
 use Rattle.ts_config.specs.declared.setup.Setup.{Setup}
 use Rattle.ts_hooks.specs.declared.txn_end.TxnEnd.{TxnEnd}
@@ -46,10 +45,10 @@ finish_after end (S.Finishes other) = K.Finishing other
 finish_after end (S.Closes other) = K.Phased (P.TxnClose other)
 finish_after end S.Lacks = K.Phased (P.Ended E.NoMemory)
 
-module _ (setup : Setup) (refuses : Type 0) {Q : Type 0} (rest : Q → List ℕ → List ℕ) where
+module _ (setup : Setup) (refuses : Type 0) {Q L : Type 0} (stage : transform.Ghosts Q L) where
   abbrev pub CourseFact : View → Course Q → Type 0
   CourseFact v (K.Phased p) = PhaseFact setup refuses v p
-  CourseFact v (K.Relaying r) = RelaysBody setup refuses rest v r.driven.chain r.body
+  CourseFact v (K.Relaying r) = RelaysBody setup refuses stage v r.driven.chain r.body r.short
   CourseFact v (K.Finishing end) = IsFinishing setup refuses v end
 
 -- Whether its links tell or not, neither has forgotten a fault, and an end for the fault of one comes only
@@ -64,4 +63,4 @@ module _ {C O Q : Type 0} (client : link.Ghosts C) (origin : link.Ghosts O) (bot
   -- what holds of a transaction on its course
   abbrev pub CourseHolds : Core C O → Course Q → Type 0
   CourseHolds t course = IfTold client.tells origin.tells (CourseFact (arc_value t.setup)
-      (OriginRefuses client both t) stage.rest (view_of client origin t) course)
+      (OriginRefuses client both t) stage (view_of client origin t) course)

@@ -73,7 +73,7 @@ pub record BodyHasEvents {Q : Type 0} (v : View) (main : Option StageContinuatio
   pub runs : r.driven.running ≡ true
   pub joined : IsJoined r.driven.chain r.driven.table.items main r.reader pending roles
   pub ends : AreBodyEndsRoused v main r
-  pub ordered : EndsInOrder r.driven.chain.given r.driven.chain.stages
+  pub ordered : EndsInOrder true r.driven.chain.stages
 
 -- so has each duty of a transaction
 abbrev pub HasEventsOn : {Q : Type 0} → View → Option StageContinuation → Course Q → List Pending → List Named
@@ -173,7 +173,7 @@ pub record HasStepDone {Q : Type 0} (step : BodyStep) (v : View) (main : Option 
   pub joined : IsBodyJoined main r now.log.state.pending now.roles
   pub covered : WhileGoes step (IsBodyCovered v main r now.log.state.next)
   pub runs : UnlessLacking step (RunsOr r now.log.state.next)
-  pub ordered : EndsInOrder r.driven.chain.given r.driven.chain.stages
+  pub ordered : EndsInOrder true r.driven.chain.stages
 
 -- A body stands so behind a step: each pending event is plain, and of one of its continuations; and its
 -- duties are so, or the event numbers are used up.

@@ -6,7 +6,6 @@ use Rattle.ts_config.specs.declared.fields.PluginLine.{PluginLine}
 use Rattle.ts_group.specs.Context.{Context}
 use Rattle.ts_group.specs.Entries.{Grows}
 use Rattle.ts_hooks.specs.declared.txn_end.TxnEnd.{TxnEnd}
-use Rattle.ts_hooks.specs.declared.txn_end.TxnEnd.TheVariants as E
 use Rattle.ts_link.specs.declared.link.Link as link
 use Rattle.ts_upstream.specs.declared.upstream.Upstream as upstream
 use Rattle.ts_transform.specs.Driving.{ActsWithin, IsDueAfter, SetsOnly}
@@ -138,7 +137,7 @@ module _ {C O Q : Type 0} (client : link.Ghosts C) (origin : link.Ghosts O) (bot
     pub client_late : Bool
     pub origin_late : Bool
     pub minds : MindsBody client.tells origin.tells (view_of client origin s) (view_of client origin t)
-        old.driven.chain after.driven.chain step client_late origin_late
+        old after step client_late origin_late
 
   -- one of the last writes is made
   pub record TakesWrite (end : TxnEnd) (step : BodyStep) (new : Course Q) : Type 0 where

@@ -28,7 +28,7 @@ pub record EventOwes {C O Q : Type 0} (client : link.Ghosts C) (origin : link.Gh
   pub keeps : MatchWant want (IsSoundNow client origin both stage t u new b) (λ group question.
       AwaitsNow client origin both stage t u new b group question
       × IsPluginGroup (arc_value t.setup) t.plugins_at group)
-  -- at most seven events were set
+  -- few events were set
   pub within : ActsWithin most_set a b
   -- where the event led, and when the events that it set are due
   pub handles : HandlesEvent client origin both s t a b role main old new

@@ -15,8 +15,8 @@ use Rattle.ts_txn.specs.Making.{end_of_course}
 use Rattle.ts_phases.specs.View.{HasFailed, OriginRefuses, View, view_of}
 use Rattle.ts_txn.specs.declared.txn.Txn.{Txn}
 
--- The client took what the block of all bytes of both links says: the whole answer, or its head and a front
--- of a body that was cut, or that broke its framing.
+-- The client took what the block of all bytes of both links says: the whole answer, or its head and what the
+-- lines had written of a body that was cut, or that broke its framing.
 pub data SendsBlock (setup : Setup) (refuses : Type 0) (v : View) : TxnEnd → Type 0 where
   whole : WholeEnd setup refuses v → SendsBlock setup refuses v E.Whole
   cut : ShortEnd setup refuses v E.OriginCut → SendsBlock setup refuses v E.OriginCut

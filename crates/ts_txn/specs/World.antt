@@ -1,5 +1,5 @@
 -- What holds of a transaction in its group between calls, and of which transaction a tag speaks.
-use Rattle.std.specs.Prelude.{◌≡◌, ℕ, List, true, false, Option, Some, None, Ok, ⊤}
+use Rattle.std.specs.Prelude.{◌≡◌, ℕ, ◌+◌, List, true, false, Option, Some, None, Ok, ⊤}
 use Rattle.std.specs.Arc.{arc_value}
 use Rattle.ts_config.specs.declared.setup.TransformLine.{TransformLine}
 use Rattle.ts_journal.specs.declared.entry.Pending.{Pending}
@@ -14,7 +14,9 @@ use Rattle.ts_link.specs.declared.link.Link as link
 use Rattle.ts_upstream.specs.declared.upstream.Upstream as upstream
 use Rattle.ts_transform.specs.declared.transform.Transform as transform
 use Rattle.ts_transform.specs.declared.continuation.StageContinuation.{StageContinuation}
+use Rattle.ts_config.specs.Bytes.{most_transforms}
 use Rattle.ts_relay.specs.BodyLinks.{HoldsLittle}
+use Rattle.ts_relay.specs.Duties.{set_by_beginning}
 use Rattle.ts_txn.specs.Course.{CourseHolds, StandsForCauseOn}
 use Rattle.ts_txn.specs.CourseCover.{IsCoveredOn, StaysOnOrLacks, is_fresh_on}
 use Rattle.ts_relay.specs.Entering.{ActsAsLines}
@@ -30,9 +32,10 @@ use Rattle.ts_phases.specs.declared.phase.Phase.TheVariants as P
 use Rattle.ts_txn.specs.declared.txn.Txn.{Txn}
 use Rattle.ts_txn.specs.declared.txn.TxnTag.{TxnTag}
 
--- how many events a transaction sets at most when one is handled
+-- how many events a transaction sets at most when one is handled: no more than where a body begins that goes
+-- through as many stages as there may be transform lines, and one where it is left
 abbrev pub most_set : ℕ
-most_set = 7
+most_set = set_by_beginning most_transforms + 1
 
 -- while a body is passed on, little of it is held before it comes to the first stage
 abbrev pub HoldsLittleOn : {Q : Type 0} → View → Course Q → Type 0
@@ -49,7 +52,7 @@ module _ {C O Q : Type 0} (client : link.Ghosts C) (origin : link.Ghosts O) (bot
   pub record HoldsOn (core : Core C O) (course : Course Q) : Type 0 where
     pub holds : CourseHolds client origin both stage core course
     pub pair : IsPaired both core
-    pub acts : ActsAsLines stage.whole
+    pub acts : ActsAsLines stage
     pub lines : IsOfLinesOn (arc_value core.setup) stage.rest course
     pub little : IfTold client.tells origin.tells (HoldsLittleOn (view_of client origin core) course)
     pub setup : IsTxnSetup (arc_value core.setup) core.plugins_at

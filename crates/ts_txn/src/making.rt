@@ -104,7 +104,7 @@ impl<C: Link + Drop, O: Upstream<C> + Drop, P: Transform<Line = TransformLine> +
         origin: Option<O>,
     ) -> Result<Txn<C, O, P>, NoMemory>
         requires setup { IsTxnSetup (arc_value setup) plugins_at }
-        requires acts { ActsAsLines P.whole }
+        requires acts { ActsAsLines P.Transform }
         requires client { C.tells ≡ true → IsNewLink (C.look client) }
         requires origin { O.tells ≡ true → IsNewLinkIf O.look origin }
         requires pair { ArePaired O.paired client origin }
@@ -139,13 +139,16 @@ impl<C: Link + Drop, O: Upstream<C> + Drop, P: Transform<Line = TransformLine> +
         })
     }
 
-    /// How it ended; nothing while it has not. Once nothing of its group is pending, a transaction that was
-    /// started has ended, or the event numbers are used up. Whether the links tell or not, it ended for the
-    /// fault of one only where that one has failed since the transaction was made. Where both links tell,
-    /// what a transaction sends, header rules included, is one request to its origin and one response to its
-    /// client at most; and once a head was queued for the client, the request stands whole at the origin and
-    /// nothing waits for it, unless the origin's link failed. What an upload wrote stands behind the request:
-    /// `handle` says that nothing else does.
+    /// How it ended; nothing while it has not. Once nothing of its group is pending, a transaction that
+    /// was started has ended, or the event numbers are used up. Whether the links tell or not, it ended
+    /// for the fault of one only where that one has failed since the transaction was made. Where both
+    /// links tell, neither failed, and memory did not lack: where a line finished early on what was read
+    /// of a body, it ended whole, with what the lines make of every body that begins so; and else where
+    /// the body was cut or bad, with what they had written of it. Where both links tell, what a
+    /// transaction sends, header rules included, is one request to its origin and one response to its
+    /// client at most; and once a head was queued for the client, the request stands whole at the origin
+    /// and nothing waits for it, unless the origin's link failed. What an upload wrote stands behind the
+    /// request: `handle` says that nothing else does.
     pub fn end(&self) -> Option<TxnEnd>
         ensures end { result ≡ end_of_course self.now.course }
         ensures rests { result ≡ None → is_fresh_on self.now.course ≡ false → (next : ℕ) (roles : List Named)

@@ -17,7 +17,7 @@ use Rattle.ts_relay.proofs.client_end.frame_some.Goals as goal
 pub returns-in_default-frame_body-clause-leads : goal.returns-in_default-frame_body-clause-leads
 returns-in_default-frame_body-clause-leads g c = λ told also.
     frames_lacks (arc_value c.args.core.now.setup) (OriginRefuses g.C.Link g.O.Upstream c.args.core.now)
-    g.P.Transform.rest
+    g.P.Transform c.args.relay.now.short
     (view_of g.C.Link g.O.Link c.args.core.now) (view_of g.C.Link g.O.Link c.frame_body.new.self)
     c.args.relay.now.driven.chain c.args.relay.now.body
     c.in_default-frame_body.ensures.err (c.requires.fact told also)
@@ -25,7 +25,7 @@ returns-in_default-frame_body-clause-leads g c = λ told also.
 pub returns-clause-leads : goal.returns-clause-leads
 returns-clause-leads g c = λ told also.
     frames_step (arc_value c.args.core.now.setup) (OriginRefuses g.C.Link g.O.Upstream c.args.core.now)
-    g.P.Transform.rest
+    g.P.Transform c.args.relay.now.short
     (view_of g.C.Link g.O.Link c.args.core.now) (view_of g.C.Link g.O.Link c.frame_body.new.self)
     c.args.relay.now.driven.chain
     c.take.new.self.chain c.args.relay.now.body c.piece_of-piece.result.now _ c.take.result
@@ -40,17 +40,17 @@ returns-clause-leads g c = λ told also.
 pub returns-in_default-clause-lowers : goal.returns-in_default-clause-lowers
 returns-in_default-clause-lowers g c =
     must_weaker g.C.Link.tells g.O.Link.tells (MustSend (view_of g.C.Link g.O.Link c.args.core.now)
-    c.args.relay.now.driven.chain) _ (arc_value c.args.core.now.setup) g.P.Transform.rest _
+    c.args.relay.now) _ (arc_value c.args.core.now.setup) g.P.Transform.rest _
     (view_of g.C.Link g.O.Link c.args.core.now) (view_of g.C.Link g.O.Link c.end_some.new.core)
     c.args.relay.now c.args.relay.now c.args.cx.now c.args.cx.now
-    (rest_to_send (view_of g.C.Link g.O.Link c.args.core.now) c.args.relay.now.driven.chain c.requires.empty
+    (rest_to_send (view_of g.C.Link g.O.Link c.args.core.now) c.args.relay.now c.requires.empty
     (ap client_wait (sym c.chain.ensures) ∙ c.in_default.ensures))
     (c.end_some.ensures.lowers c.args.cx.now)
 
 pub returns-in_default-frame_body-clause-lowers : goal.returns-in_default-frame_body-clause-lowers
 returns-in_default-frame_body-clause-lowers g c =
     queues_lacks g.C.Link.tells g.O.Link.tells (MustSend (view_of g.C.Link g.O.Link c.args.core.now)
-    c.args.relay.now.driven.chain) (arc_value c.args.core.now.setup) g.P.Transform.rest
+    c.args.relay.now) (arc_value c.args.core.now.setup) g.P.Transform.rest
     (view_of g.C.Link g.O.Link c.args.core.now) (view_of g.C.Link g.O.Link c.frame_body.new.self)
     c.args.relay.now
     c.args.cx.now c.in_default-frame_body.ensures.err
@@ -58,12 +58,12 @@ returns-in_default-frame_body-clause-lowers g c =
 pub returns-clause-lowers : goal.returns-clause-lowers
 returns-clause-lowers g c =
     subst (λ s. LowersBody g.C.Link.tells g.O.Link.tells (MustSend (view_of g.C.Link g.O.Link c.args.core.now)
-    c.args.relay.now.driven.chain) (arc_value c.args.core.now.setup) g.P.Transform.rest s
+    c.args.relay.now) (arc_value c.args.core.now.setup) g.P.Transform.rest s
     (view_of g.C.Link g.O.Link c.args.core.now) (view_of g.C.Link g.O.Link c.frame_body.new.self)
     c.args.relay.now (record c.args.relay.now { driven = c.take.new.self }) c.args.cx.now c.take.new.cx)
     (sym c.step_after.ensures)
     (frames_after g.C.Link.tells g.O.Link.tells (MustSend (view_of g.C.Link g.O.Link c.args.core.now)
-    c.args.relay.now.driven.chain) (arc_value c.args.core.now.setup) g.P.Transform.rest
+    c.args.relay.now) (arc_value c.args.core.now.setup) g.P.Transform.rest
     (view_of g.C.Link g.O.Link c.args.core.now) (view_of g.C.Link g.O.Link c.frame_body.new.self)
     c.args.relay.now
     (record c.args.relay.now { driven = c.take.new.self }) c.args.cx.now c.take.new.cx c.take.result _
@@ -87,8 +87,9 @@ returns-clause-steps g c = record {
   keeps = c.frame_body.ensures.keeps;
   links =
       writer_framed g.C.Link.tells g.O.Link.tells (view_of g.C.Link g.O.Link c.args.core.now)
-      (view_of g.C.Link g.O.Link c.frame_body.new.self) c.args.relay.now.driven.chain c.take.new.self.chain
-      c.step_after.result _ _ g.P.Transform.rest _ (calm_after c.take.result c.step_after.result
+      (view_of g.C.Link g.O.Link c.frame_body.new.self) c.args.relay.now
+      (record c.args.relay.now { driven = c.take.new.self }) c.step_after.result _ _ g.P.Transform.rest _
+      (calm_after c.take.result c.step_after.result
       c.step_after.ensures) c.requires.empty c.take.ensures.takes c.in-Ok.ensures.ok;
   chain =
       subst (λ s. StepsChain s 1 c.args.relay.now.driven c.take.new.self c.args.cx.now c.take.new.cx)

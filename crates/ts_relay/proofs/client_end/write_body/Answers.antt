@@ -9,7 +9,7 @@ use Rattle.ts_relay.proofs.client_end.write_body.Goals as goal
 
 pub returns-in-Some-clause-leads : goal.returns-in-Some-clause-leads
 returns-in-Some-clause-leads g c = λ told also.
-    writes_on _ _ _ _ _ _ _ _ _ told c.in-Some.ensures.writes (c.requires.fact told also)
+    writes_on _ _ _ _ _ _ _ _ _ _ told c.in-Some.ensures.writes (c.requires.fact told also)
 
 pub returns-in-Some-clause-steps : goal.returns-in-Some-clause-steps
 returns-in-Some-clause-steps g c =
@@ -31,7 +31,7 @@ returns-in-Nothing-clause-lowers g c = lowering.writes_nothing _ _ _ _ _ _ _ _ _
 
 pub returns-in-Again-clause-leads : goal.returns-in-Again-clause-leads
 returns-in-Again-clause-leads g c = λ told also.
-    writes_on _ _ _ _ _ _ _ _ _ told c.in-Again.ensures.writes (c.requires.fact told also)
+    writes_on _ _ _ _ _ _ _ _ _ _ told c.in-Again.ensures.writes (c.requires.fact told also)
 
 pub returns-in-Again-clause-steps : goal.returns-in-Again-clause-steps
 returns-in-Again-clause-steps g c =
@@ -43,7 +43,7 @@ returns-in-Again-clause-lowers g c = lowering.writes_waits _ _ _ _ _ _ _ _ _ c.i
 
 pub returns-in-Failed-clause-leads : goal.returns-in-Failed-clause-leads
 returns-in-Failed-clause-leads g c = λ told also.
-    writes_left _ _ _ _ _ _ _ _ told c.in-Failed.ensures.writes (c.requires.fact told also)
+    writes_left _ _ _ _ _ _ _ _ _ told c.in-Failed.ensures.writes (c.requires.fact told also)
 
 pub returns-in-Failed-clause-steps : goal.returns-in-Failed-clause-steps
 returns-in-Failed-clause-steps g c =
@@ -55,7 +55,7 @@ returns-in-Failed-clause-lowers g c = lowering.writes_closes _ _ _ _ _ _ _ _ _ _
 
 pub returns-in-NoMemory-clause-leads : goal.returns-in-NoMemory-clause-leads
 returns-in-NoMemory-clause-leads g c = λ told also.
-    writes_lacks _ _ _ _ _ _ _ _ _ told c.in-NoMemory.ensures.writes (c.requires.fact told also)
+    writes_lacks _ _ _ _ _ _ _ _ _ _ told c.in-NoMemory.ensures.writes (c.requires.fact told also)
 
 pub returns-in-NoMemory-clause-steps : goal.returns-in-NoMemory-clause-steps
 returns-in-NoMemory-clause-steps g c =

@@ -27,11 +27,11 @@ returns-in-Ok-queue_head-clause-ok g c = λ told also.
     let q = c.args.request.now in
     let h = c.args.head.now in
     queues_head (arc_value c.args.core.now.setup) (OriginRefuses g.C.Link g.O.Upstream c.args.core.now)
-    g.P.Transform.rest
+    g.P.Transform
     (view_of g.C.Link g.O.Link c.args.core.now) (view_of g.C.Link g.O.Link c.queue_head.new.self) q h
     c.in-Ok.made c.bytes.result.now c.mode_of-mode.result
     (c.requires.fact told also).0
-    (subst (λ s. IsFreshRelay g.P.Transform.rest s q.head h c.in-Ok.made) c.deref.ensures
+    (subst (λ s. IsFreshRelay g.P.Transform s q.head h c.in-Ok.made) c.deref.ensures
     c.in-Ok.ensures.fresh)
     (c.bytes.ensures ∙ c.in-Ok-relayed_with.ensures
     ∙ ap (λ s. relayed_with s q.head h c.args.fields.now) c.deref-2.ensures

@@ -1,5 +1,5 @@
--- The stages are made and the first is roused, or the chain tells why not.
-use Rattle.std.proofs.Common.{◌≡◌, Some, sym, ap, ◌∙◌}
+-- The stages are made and each is roused that must work, or the chain tells why not.
+use Rattle.std.proofs.Common.{◌≡◌, length, Some, sym, ap, ◌∙◌}
 use Rattle.ts_transform.specs.declared.loss.Loss.{Loss}
 use Rattle.ts_transform.specs.declared.loss.Loss.TheVariants as L
 use Rattle.ts_relay.proofs.Chaining.{goes_unspent, lost_unspent}
@@ -8,29 +8,32 @@ use Rattle.ts_relay.proofs.Entered.{starts_lacks, starts_running, starts_spent}
 use Rattle.ts_relay.proofs.entry.start_chain.Goals as goal
 
 pub returns-in-None-clause-begins : goal.returns-in-None-clause-begins
-returns-in-None-clause-begins g c = starts_running c.args.driven.now c.start.new.self c.args.cx.now
-    c.start.new.cx c.start.ensures.within c.start.ensures.rest c.start.ensures.driven c.requires.first
+returns-in-None-clause-begins g c = starts_running (length c.args.driven.now.chain.stages) c.start.new.self
+    c.args.cx.now c.start.new.cx c.start.ensures.within c.start.ensures.rest c.start.ensures.driven
     c.start.ensures.begun (sym c.lost.ensures ∙ c.in-None.is)
 
 pub returns-in-Some-Spent-clause-begins : goal.returns-in-Some-Spent-clause-begins
-returns-in-Some-Spent-clause-begins g c = starts_spent c.args.driven.now c.start.new.self c.args.cx.now
-    c.start.new.cx c.start.ensures.within c.start.ensures.rest c.start.ensures.driven c.requires.first
+returns-in-Some-Spent-clause-begins g c = starts_spent (length c.args.driven.now.chain.stages)
+    c.start.new.self
+    c.args.cx.now c.start.new.cx c.start.ensures.within c.start.ensures.rest c.start.ensures.driven
     c.start.ensures.begun (sym c.lost.ensures ∙ c.in-Some-Spent.is ∙ ap (λ (l : Loss). Some l)
     c.in-Some-Spent.field-0-is)
 
 pub returns-in-Some-NoMemory-clause-begins : goal.returns-in-Some-NoMemory-clause-begins
-returns-in-Some-NoMemory-clause-begins g c = starts_lacks c.args.driven.now c.start.new.self c.args.cx.now
-    c.start.new.cx c.start.ensures.within c.start.ensures.rest c.start.ensures.driven c.requires.first
+returns-in-Some-NoMemory-clause-begins g c = starts_lacks (length c.args.driven.now.chain.stages)
+    c.start.new.self
+    c.args.cx.now c.start.new.cx c.start.ensures.within c.start.ensures.rest c.start.ensures.driven
     c.start.ensures.begun
 
 pub returns-in-Some-TableFull-clause-begins : goal.returns-in-Some-TableFull-clause-begins
-returns-in-Some-TableFull-clause-begins g c = starts_lacks c.args.driven.now c.start.new.self c.args.cx.now
-    c.start.new.cx c.start.ensures.within c.start.ensures.rest c.start.ensures.driven c.requires.first
+returns-in-Some-TableFull-clause-begins g c = starts_lacks (length c.args.driven.now.chain.stages)
+    c.start.new.self
+    c.args.cx.now c.start.new.cx c.start.ensures.within c.start.ensures.rest c.start.ensures.driven
     c.start.ensures.begun
 
 pub returns-in-Some-Dead-clause-begins : goal.returns-in-Some-Dead-clause-begins
-returns-in-Some-Dead-clause-begins g c = starts_lacks c.args.driven.now c.start.new.self c.args.cx.now
-    c.start.new.cx c.start.ensures.within c.start.ensures.rest c.start.ensures.driven c.requires.first
+returns-in-Some-Dead-clause-begins g c = starts_lacks (length c.args.driven.now.chain.stages) c.start.new.self
+    c.args.cx.now c.start.new.cx c.start.ensures.within c.start.ensures.rest c.start.ensures.driven
     c.start.ensures.begun
 
 pub returns-in-None-clause-due : goal.returns-in-None-clause-due

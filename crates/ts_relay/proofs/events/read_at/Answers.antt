@@ -8,7 +8,7 @@ use Rattle.ts_relay.proofs.events.read_at.Goals as goal
 
 pub returns-clause-leads : goal.returns-clause-leads
 returns-clause-leads g c = λ told also.
-    settled_as _ _ g.P.Transform.rest _ c.read_body-step.new.relay c.settle_after.new.relay
+    settled_as _ _ g.P.Transform _ c.read_body-step.new.relay c.settle_after.new.relay
     c.read_body-step.result c.settle_after.result c.settle_after.ensures.settles.settled
     c.settle_after.ensures.relay (c.read_body-step.ensures.leads told also)
 
@@ -53,10 +53,12 @@ returns-clause-handles g c = record {
   links =
       links_read g.C.Link.tells g.O.Link.tells _
       _ c.read_body-step.result c.settle_after.result
-      c.args.main.now c.args.relay.now c.read_body-step.new.relay c.settle_after.new.relay c.args.cx.now
+      c.args.main.now c.unrouse.new.slot c.args.relay.now c.read_body-step.new.relay
+      c.settle_after.new.relay c.args.cx.now
       c.read_body-step.new.cx c.settle_after.new.cx c.read_body-step.ensures.steps.links
       c.settle_after.ensures.settles.settled
       (ap (λ x. x.driven) c.settle_after.ensures.relay)
+      (ap (λ x. x.short) c.settle_after.ensures.relay) c.read_body-step.ensures.steps.stays
       c.read_body-step.ensures.steps.chain (c.read_body-step.ensures.steps.reader ∙ c.unrouse.ensures)
       c.settle_after.ensures.settles.adds c.settle_after.ensures.due;
 }

@@ -10,7 +10,7 @@ use Rattle.ts_relay.proofs.events.send_at.Goals as goal
 
 pub returns-clause-leads : goal.returns-clause-leads
 returns-clause-leads g c = λ told also.
-    settled_as _ _ g.P.Transform.rest _ c.write_body-step.new.relay c.settle_after.new.relay
+    settled_as _ _ g.P.Transform _ c.write_body-step.new.relay c.settle_after.new.relay
     c.write_body-step.result c.settle_after.result c.settle_after.ensures.settles.settled
     c.settle_after.ensures.relay (c.write_body-step.ensures.leads told also)
 
@@ -61,6 +61,7 @@ returns-clause-handles g c = record {
       c.args.cx.now c.write_body-step.new.cx c.settle_after.new.cx c.write_body-step.ensures.steps.links
       c.settle_after.ensures.settles.settled
       (ap (λ x. x.driven) c.settle_after.ensures.relay)
+      (ap (λ x. x.short) c.settle_after.ensures.relay)
       c.write_body-step.ensures.steps.chain c.write_body-step.ensures.steps.relay c.unrouse.ensures
       c.settle_after.ensures.settles.adds c.settle_after.ensures.due;
 }

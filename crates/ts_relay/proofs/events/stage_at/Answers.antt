@@ -11,10 +11,10 @@ use Rattle.ts_relay.proofs.events.stage_at.Goals as goal
 
 pub returns-clause-leads : goal.returns-clause-leads
 returns-clause-leads g c = λ told also.
-    settled_as _ _ g.P.Transform.rest _ (record c.args.relay.now { driven = c.handle.new.self })
+    settled_as _ _ g.P.Transform _ (record c.args.relay.now { driven = c.handle.new.self })
     c.settle_after.new.relay c.step_after-step.result c.settle_after.result
-    c.settle_after.ensures.settles.settled c.settle_after.ensures.relay (stage_leads _ _ g.P.Transform.rest _
-    c.args.relay.now.driven.chain c.handle.new.self.chain c.args.relay.now.body
+    c.settle_after.ensures.settles.settled c.settle_after.ensures.relay (stage_leads _ _ g.P.Transform _
+    c.args.relay.now.driven.chain c.handle.new.self.chain c.args.relay.now.body c.args.relay.now.short
     c.args.relay.now.driven.table.items c.handle.new.self.table.items c.args.cx.now c.handle.new.cx
     c.handle.result c.step_after-step.result c.step_after-step.ensures c.handle.ensures.gives
     (c.requires.fact told also))
@@ -24,7 +24,7 @@ returns-clause-pays g c =
     role_pays g.C.Link.tells g.O.Link.tells _ g.P.Transform.rest g.P.Transform.pause c.args.role c.args.event
     c.handle.result c.settle_after.result _ c.args.main.now c.settle_after.new.main c.args.relay.now
     c.settle_after.new.relay c.handle.new.self c.args.cx.now c.handle.new.cx c.settle_after.new.cx
-    c.handle.ensures.acts (λ none. (c.handle.ensures.other none).0) c.handle.ensures.gives
+    c.handle.ensures.acts (λ none. (c.handle.ensures.other none).0) g.P.Transform.soon c.handle.ensures.gives
     c.handle.ensures.within c.handle.ensures.loses (subst (λ x. SettlesAfter x c.settle_after.result
     (view_of g.C.Link g.O.Link c.args.core.now) c.args.main.now c.settle_after.new.main
     (record c.args.relay.now { driven = c.handle.new.self }) c.settle_after.new.relay c.handle.new.cx
@@ -51,7 +51,8 @@ returns-clause-handles g c = record {
       (record c.args.relay.now { driven = c.handle.new.self }) c.settle_after.new.relay c.args.cx.now
       c.handle.new.cx c.settle_after.new.cx
       c.step_after-step.ensures c.settle_after.ensures.settles.settled (ap (λ x. x.driven)
-      c.settle_after.ensures.relay) c.handle.ensures.gives.once c.handle.ensures.within.grows.moment
+      c.settle_after.ensures.relay) (ap (λ x. x.short) c.settle_after.ensures.relay)
+      c.handle.ensures.gives.once c.handle.ensures.within.grows.moment
       c.handle.ensures.acts (λ none. (c.handle.ensures.other none).1) c.handle.ensures.rest.others refl
       c.settle_after.ensures.settles.adds c.settle_after.ensures.due;
 }

@@ -18,14 +18,14 @@ loop-line-preserved g c =
       | then-acts_on+in_ok-fresh+in_ok-push w ↦
           subst (λ ps. Continues g.P.Transform acts c.args.lines.now more ps)
           (sym (ap (λ v. v.items) w.parts-is ∙ w.in_ok-push.ensures.items))
-          (part_more g.P.Transform g.P.Transform.whole acts c.args.lines.now left more c.line-item.result is
+          (part_more g.P.Transform acts c.args.lines.now left more c.line-item.result is
           c.loop-line.parts.items c.loop-line.invariant c.requires
           (sym c.acts_on.ensures ∙ w.if-acts_on.true) w.in_ok-fresh.field-0 w.in_ok-fresh.ensures.rest
-          w.in_ok-fresh.ensures.pause)
+          w.in_ok-fresh.ensures.pause w.in_ok-fresh.ensures.soon)
       | else-acts_on w ↦
           subst (λ ps. Continues g.P.Transform acts c.args.lines.now more ps)
           (sym (ap (λ v. v.items) w.parts-is))
-          (part_none g.P.Transform g.P.Transform.whole acts c.args.lines.now left more c.line-item.result is
+          (part_none g.P.Transform acts c.args.lines.now left more c.line-item.result is
           c.loop-line.parts.items c.loop-line.invariant
           (sym c.acts_on.ensures ∙ w.if-acts_on.false))
     ]

@@ -1,21 +1,24 @@
 -- What passes on a body is fresh: its chain is of the lines that act, and nothing was read.
-use Rattle.std.proofs.Common.{ap, subst, ◌∙◌}
-use Rattle.ts_transform.specs.Flow.{flow}
+use Rattle.std.proofs.Common.{subst, sym, ◌∙◌}
+use Rattle.ts_transform.specs.Flow.{Composes}
 use Rattle.ts_wire.specs.declared.framing.Framing.{Framing}
 use Rattle.ts_block.specs.Block.{lines_for}
 use Rattle.ts_relay.specs.Inserted.{AreOfLines}
 use Rattle.ts_block.specs.Relayed.{if_body}
 use Rattle.ts_relay.proofs.Entered.{fresh_relay}
-use Rattle.ts_relay.proofs.Parting.{compose_of_lines}
+use Rattle.ts_relay.proofs.Parting.{compose_of_lines, soon_of_lines}
 use Rattle.ts_relay.proofs.making.make_relay.Goals as goal
 
 pub returns-clause-fresh : goal.returns-clause-fresh
 returns-clause-fresh g c =
-    fresh_relay g.P.Transform.rest c.args.setup.now c.args.request.now c.args.head.now c.make-2.result
+    fresh_relay g.P.Transform c.args.setup.now c.args.request.now c.args.head.now c.make-2.result
     c.in_ok-body.body c.in_ok-parts.parts.items c.framing_between-framing.result
     (c.make-2.ensures.fresh.0, c.make-2.ensures.fresh.1) (c.make-2.ensures.chain ∙ c.in_ok-chain.ensures.made)
-    (λ z. ap (λ k. flow g.P.Transform.rest k z) c.make-2.ensures.chain ∙ c.in_ok-chain.ensures.flow z)
+    (subst (λ k. Composes g.P.Transform.rest g.P.Transform.soon c.in_ok-parts.parts.items k)
+    (sym c.make-2.ensures.chain) c.in_ok-chain.ensures.flow)
     (compose_of_lines g.P.Transform (if_body c.framing_between-framing.result (lines_for c.args.setup.now
+    c.args.head.now)) c.in_ok-parts.parts.items c.in_ok-parts.ensures)
+    (soon_of_lines g.P.Transform (if_body c.framing_between-framing.result (lines_for c.args.setup.now
     c.args.head.now)) c.in_ok-parts.parts.items c.in_ok-parts.ensures)
     c.framing_between-framing.ensures c.in_ok-body.ensures
 

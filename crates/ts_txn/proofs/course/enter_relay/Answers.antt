@@ -1,12 +1,12 @@
 -- A body begins, or memory lacks for its head: where that leads, and that it pays for its events.
 use Rattle.std.specs.Arc.{arc_value}
-use Rattle.std.specs.Prelude.{◌∷◌, []}
+use Rattle.std.specs.Prelude.{◌+◌, ◌∷◌, [], length}
 use Rattle.std.proofs.Common.{arith, refl, sym, ap, subst, ◌≤◌}
 use Rattle.ts_hooks.specs.declared.txn_end.TxnEnd.TheVariants as E
 use Rattle.ts_transform.proofs.Kept.{acts_none, acts_then}
 use Rattle.ts_transform.proofs.Seats.{cleared_acts}
 use Rattle.ts_txn.specs.Course.{course_after}
-use Rattle.ts_relay.specs.Duties.{set_leaving}
+use Rattle.ts_relay.specs.Duties.{set_by_beginning, set_leaving}
 use Rattle.ts_link.specs.Link.{Look, NoMore}
 use Rattle.ts_relay.specs.LoweringBody.{IsOfLines, left_after, unbegun_left}
 use Rattle.ts_phases.specs.Lowering.{work_left}
@@ -21,7 +21,8 @@ use Rattle.ts_txn.proofs.CourseSeats.{ended_alone}
 use Rattle.ts_txn.proofs.Coursing.{after_led, course_settled, enters_settled, led_on, stays_on}
 use Rattle.ts_txn.proofs.Events.{begin_led, due_begin, takes_begin, takes_lost}
 use Rattle.ts_txn.proofs.Handling.{little_begun, little_stay, sound_here}
-use Rattle.ts_txn.proofs.LoweringCourse.{begun_led, lines_after, lines_stay, not_begun}
+use Rattle.ts_txn.proofs.LoweringCourse.{begin_within, begun_led, few_stages, lines_after, lines_stay}
+use Rattle.ts_txn.proofs.LoweringCourse.{not_begun}
 use Rattle.ts_relay.proofs.LoweringPays.{set_one}
 use Rattle.ts_txn.proofs.course.enter_relay.Goals as goal
 
@@ -34,7 +35,7 @@ returns-in_default-clause-owes g c = λ phase enters. record {
       sound_here g.C.Link g.O.Link g.O.Upstream g.P.Transform core new
       (K.Phased (P.ResponseTransform c.args.request c.args.head)) (K.Phased (P.Ended E.NoMemory))
       c.destroy_end.new.slot c.destroy_end.new.cx c.requires.stands c.queue_relay.ensures.keeps
-      (λ told also. course_settled g.C.Link g.O.Link g.O.Upstream g.P.Transform.rest core new
+      (λ told also. course_settled g.C.Link g.O.Link g.O.Upstream g.P.Transform core new
       (K.Phased (P.Ended E.NoMemory)) c.queue_relay.ensures.keeps
       (c.in_default.ensures.err told also)) tt (λ told also. tt)
       (record {
@@ -66,7 +67,7 @@ returns-in_default-clause-owes g c = λ phase enters. record {
 
 pub begin_body-step-requires-clause-fact : goal.begin_body-step-requires-clause-fact
 begin_body-step-requires-clause-fact g c = λ told also.
-    enters_settled g.C.Link g.O.Link g.O.Upstream g.P.Transform.rest
+    enters_settled g.C.Link g.O.Link g.O.Upstream g.P.Transform
     c.args.core.now c.queue_relay.new.core c.in-Ok.made.driven.chain c.in-Ok.made.body
     c.queue_relay.ensures.keeps (c.in-Ok.ensures.ok told also)
 
@@ -82,8 +83,8 @@ returns-clause-owes g c = λ phase enters. record {
       (K.Phased (P.ResponseTransform c.args.request c.args.head)) c.leave_body.result c.leave_body.new.main
       c.leave_body.new.cx c.requires.stands c.queue_relay.ensures.keeps
       (λ told also. stays_on (arc_value new.setup) (OriginRefuses g.C.Link g.O.Upstream new)
-      g.P.Transform.rest v (course_after relay step) c.leave_body.result
-      (led_on (arc_value new.setup) (OriginRefuses g.C.Link g.O.Upstream new) g.P.Transform.rest v
+      g.P.Transform v (course_after relay step) c.leave_body.result
+      (led_on (arc_value new.setup) (OriginRefuses g.C.Link g.O.Upstream new) g.P.Transform v
       relay step (c.begin_body-step.ensures.leads told also))
       (after_led step (course_after relay step) c.leave_body.result c.leave_body.ensures.course))
       (lines_stay (arc_value new.setup) g.P.Transform.rest (course_after relay step) c.leave_body.result
@@ -107,8 +108,12 @@ returns-clause-owes g c = λ phase enters. record {
   within =
       let step = c.begin_body-step.result in
       let few : set_leaving step ≤ 1 = set_one step in
-      acts_then 4 (set_leaving step) most_set (omega (arith, few)) c.begin_body-step.ensures.begins.acts
-      c.leave_body.ensures.within;
+      let stages = length c.in-Ok.made.driven.chain.stages in
+      let within : set_by_beginning stages + set_leaving step ≤ most_set =
+      begin_within stages (set_leaving step)
+      (few_stages c.in-Ok.ensures.lowers.lines.few c.requires.stands.setup.few.transforms) few in
+      acts_then (set_by_beginning stages) (set_leaving step) most_set within
+      c.begin_body-step.ensures.begins.acts c.leave_body.ensures.within;
   handles =
       let core = c.args.core.now in
       let new = c.queue_relay.new.core in
@@ -165,6 +170,8 @@ returns-clause-pays g c = λ phase kept told also.
     (view_of g.C.Link g.O.Link core) w kept step made relay c.leave_body.result (upload_of g.O.Upstream new)
     c.args.cx.now.log.state.pending
     c.begin_body-step.new.cx.log.state.pending c.leave_body.new.cx.log.state.pending
-    (c.in-Ok.ensures.lowers.falls told also) stays c.begin_body-step.ensures.begins.acts.few.pending
+    (length made.driven.chain.stages) (c.in-Ok.ensures.lowers.falls told also) stays
+    c.begin_body-step.ensures.begins.acts.few.pending
+    (few_stages c.in-Ok.ensures.lowers.lines.few c.requires.stands.setup.few.transforms)
     (after_led step (course_after relay step) c.leave_body.result c.leave_body.ensures.course)
     c.leave_body.ensures.within.few.pending

@@ -22,7 +22,7 @@ returns-clause-owes g c = record {
       (finish_after c.args.end c.send_rest-step.result) c.after_write.result c.after_write.new.main
       c.after_write.new.cx c.requires.stands c.send_rest-step.ensures.keeps
       (λ told also. led_last (arc_value core.setup) (OriginRefuses g.C.Link g.O.Upstream core)
-      g.P.Transform.rest v c.args.end c.send_rest-step.result
+      g.P.Transform v c.args.end c.send_rest-step.result
       (c.send_rest-step.ensures.leads told also))
       (lines_last (arc_value core.setup) g.P.Transform.rest c.args.end c.send_rest-step.result)
       (λ told also. little_last _ v c.args.end c.send_rest-step.result)
