@@ -55,6 +55,7 @@ module _ (Is : Outcome → Type 0) (missing : (name : List ℕ) → Is (Missing 
   line-of files (t.Map from to) next h = h (t.Map from to)
   line-of files (t.Drop byte) next h = h (t.Drop byte)
   line-of files (t.Delay ms) next h = h (t.Delay ms)
+  line-of files (t.Limit most) next h = h (t.Limit most)
 
   filled-of : (files : List ℕ → Option (List ℕ)) (ls : List TransformLine)
       (next : List TransformLine → Outcome)

@@ -7,6 +7,7 @@ pub mod Numbers
 pub mod Opening
 pub mod Parts
 pub mod Performing
+pub mod Pumping
 pub mod Serial
 pub mod Serving
 pub mod Staying

@@ -10,7 +10,7 @@ use Rattle.ts_group.specs.declared.action.Named.{Named}
 use Rattle.ts_group.specs.declared.group.Group.{Group}
 use Rattle.ts_transform.specs.declared.world.ChainWorld.{ChainWorld}
 use Rattle.ts_transform.specs.Flow.{client_wait, flow, left_to_do}
-use Rattle.ts_transform.specs.Driving.{errors_to_pass}
+use Rattle.ts_transform.specs.Driving.{upstream_calls}
 use Rattle.ts_transform.specs.Acting.{step_weight}
 use Rattle.ts_transform.specs.Cover.{IsAwake}
 use Rattle.ts_transform.specs.World.{IsSound, IsSoundGroup}
@@ -67,7 +67,7 @@ for_client w = client_wait w.driven.chain
 
 -- what a world of a chain has left to do, but for its pending events
 abbrev pub left_of : {P : Type 0} → (P → List ℕ → List ℕ) → ChainWorld P → ℕ
-left_of rest w = step_weight * (left_to_do rest w.driven.chain [] + errors_to_pass w.driven.table.items)
+left_of rest w = step_weight * (left_to_do rest w.driven.chain [] + upstream_calls w.driven.table.items)
 
 -- what is left to do in the group of a world of a chain
 abbrev pub left_in : {P Q R T U : Type 0} → (P → List ℕ → List ℕ) → Group (ChainWorld P) Q R T U → ℕ

@@ -3,8 +3,8 @@ use Rattle.std.proofs.Common.{◌≡◌, ◌≢◌, ◌⊎◌, ℕ, List, [], Bo
 use Rattle.std.proofs.Common.{refl, sym, subst}
 use Rattle.ts_config.specs.declared.setup.Setup.{Setup}
 use Rattle.ts_hooks.specs.declared.txn_end.TxnEnd.TheVariants as E
-use Rattle.ts_block.specs.Block.{AnswerSays, DenySays, DialSays, IsBlock, VerdictSays, asked, bad, cut, ended}
-use Rattle.ts_block.specs.Block.{lacking, no_head, passed_on, request_text, silent}
+use Rattle.ts_block.specs.Block.{AnswerSays, DenySays, DialSays, IsBlock, VerdictSays, asked, bad, cut, early}
+use Rattle.ts_block.specs.Block.{ended, lacking, no_head, passed_on, request_text, silent}
 use Rattle.ts_block.specs.Sent.{HasPlainRules}
 use Rattle.ts_block.specs.declared.block.Block.{Block}
 use Rattle.ts_wire.specs.Check.{check}
@@ -47,9 +47,11 @@ module _ (setup : Setup) (plain : HasPlainRules setup) where
   answer_shaped request q o b ends (lacking l is) = whole_shaped b _ is ends refl
   answer_shaped request q o b ends (passed_on h rest final good (ended body over is)) = whole_shaped b _ is
       ends refl
-  answer_shaped request q o b ends (passed_on h rest final good (cut body short is)) = short_shaped b _ is
+  answer_shaped request q o b ends (passed_on h rest final good (early front more read state text part soon is)) =
+      whole_shaped b _ is ends refl
+  answer_shaped request q o b ends (passed_on h rest final good (cut body short late is)) = short_shaped b _ is
       ends refl
-  answer_shaped request q o b ends (passed_on h rest final good (bad body wrong is)) = short_shaped b _ is
+  answer_shaped request q o b ends (passed_on h rest final good (bad body wrong late is)) = short_shaped b _ is
       ends refl
 
   module _ (dialed : Bool) (refuses : Type 0) (o : List ℕ) where

@@ -2,7 +2,7 @@
 -- pair of them.
 use Rattle.std.proofs.Common.{◌≡◌, ◌∙◌, ℕ, List, Result, true, false, Ok, inl, inr, sym, ap, subst}
 use Rattle.ts_block.specs.Block.{AnswerSays, BodySays, DenySays, DialSays, IsBlock, IsGood, LacksAnswer}
-use Rattle.ts_block.specs.Block.{VerdictSays, asked, bad, bad_status, cut, ended, faulty, lacking, no_final}
+use Rattle.ts_block.specs.Block.{VerdictSays, asked, bad, bad_status, cut, early, ended, faulty, lacking, no_final}
 use Rattle.ts_block.specs.Block.{no_head, relayed_head, request_text, silent}
 use Rattle.ts_block.specs.Block as block
 use Rattle.ts_block.specs.Heads.{FinalHead, is_refused_status}
@@ -38,9 +38,11 @@ module _ (setup : Setup) (c o : List ℕ) (b : Block) where
       → BodySays setup request q h rest b → (request ≡ b.request) × (relayed_head setup q h ≡ b.head)
   body_heads request q h rest (ended body over is) =
       (sym (ap (λ (x : Block). x.request) is), sym (ap (λ (x : Block). x.head) is))
-  body_heads request q h rest (cut body short is) =
+  body_heads request q h rest (early front more read state text part soon is) =
       (sym (ap (λ (x : Block). x.request) is), sym (ap (λ (x : Block). x.head) is))
-  body_heads request q h rest (bad body broken is) =
+  body_heads request q h rest (cut body short late is) =
+      (sym (ap (λ (x : Block). x.request) is), sym (ap (λ (x : Block). x.head) is))
+  body_heads request q h rest (bad body broken late is) =
       (sym (ap (λ (x : Block). x.request) is), sym (ap (λ (x : Block). x.head) is))
 
   module _ (q : Request) (h : ResponseHead) (rest : List ℕ) (goes : Goes setup c q true)

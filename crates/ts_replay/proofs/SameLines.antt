@@ -1,8 +1,8 @@
 -- A block, and the heads of one, depend on nothing of a setup but its lines.
-use Rattle.std.proofs.Common.{◌≡◌, ℕ, List, ◌∷◌, [], Bool, true, false, Some, Result, Ok, Err, ap, subst, ◌∙◌}
+use Rattle.std.proofs.Common.{◌≡◌, ℕ, List, ◌∷◌, [], Bool, true, false, Some, Result, Ok, Err, ap, subst, sym, ◌∙◌}
 use Rattle.std.proofs.Common.{inl, inr}
 use Rattle.std.specs.List.{list_any}
-use Rattle.ts_config.specs.Bodies.{compose_lines}
+use Rattle.ts_config.specs.Bodies.{compose_lines, is_early}
 use Rattle.ts_config.specs.declared.fields.PluginLine.{PluginLine}
 use Rattle.ts_config.specs.declared.fields.Side.TheVariants as S
 use Rattle.ts_config.specs.declared.setup.Setup.{Setup}
@@ -11,7 +11,7 @@ use Rattle.ts_hooks.specs.declared.txn_end.TxnEnd.{TxnEnd}
 use Rattle.ts_hooks.specs.declared.txn_end.TxnEnd.TheVariants as E
 use Rattle.ts_block.specs.Acting.{acting, acts_on}
 use Rattle.ts_block.specs.Block.{AnswerSays, BodySays, DenySays, DialSays, IsBlock, VerdictSays, asked, bad}
-use Rattle.ts_block.specs.Block.{body_lines, cut, ended, lacking, no_head, own_block, passed_on}
+use Rattle.ts_block.specs.Block.{body_lines, cut, early, ended, lacking, no_head, own_block, passed_on}
 use Rattle.ts_block.specs.Block.{relayed_block, request_text, silent}
 use Rattle.ts_block.specs.Own.{own_field, own_head, own_sent}
 use Rattle.ts_block.specs.Relayed.{client_framing, framing_of, if_body, length_told, mode_of, reads_chunks}
@@ -71,6 +71,11 @@ module _ (s t : Setup) (lines : s.transforms.items ≡ t.transforms.items)
   composed_same q h body = ap (λ ls. compose_lines (if_body (framing_of q h) (acting ls h.status h.fields))
       body) lines
 
+  early_same : (q : RequestHead) (h : ResponseHead) (body : List ℕ)
+      → is_early (body_lines s q h) body ≡ is_early (body_lines t q h) body
+  early_same q h body = ap (λ ls. is_early (if_body (framing_of q h) (acting ls h.status h.fields)) body)
+      lines
+
   request_same : (q : RequestHead) (target host : List ℕ)
       → request_text s q target host ≡ request_text t q target host
   request_same q target host =
@@ -93,9 +98,13 @@ module _ (s t : Setup) (lines : s.transforms.items ≡ t.transforms.items)
   body_same request q h rest b (ended body ends is) =
       ended body ends (is ∙ relayed_same request q h E.Whole (compose_lines (body_lines s q h) body) ∙ ap
       (λ z. relayed_block t request q h E.Whole z) (composed_same q h body))
-  body_same request q h rest b (cut body ends is) = cut body ends
+  body_same request q h rest b (early front more read state text part soon is) =
+      early front more read state text part (sym (early_same q h read) ∙ soon)
+      (is ∙ relayed_same request q h E.Whole (compose_lines (body_lines s q h) read) ∙ ap
+      (λ z. relayed_block t request q h E.Whole z) (composed_same q h read))
+  body_same request q h rest b (cut body ends late is) = cut body ends (sym (early_same q h body) ∙ late)
       (is ∙ relayed_same request q h E.OriginCut [])
-  body_same request q h rest b (bad body ends is) = bad body ends
+  body_same request q h rest b (bad body ends late is) = bad body ends (sym (early_same q h body) ∙ late)
       (is ∙ relayed_same request q h E.OriginBad [])
 
   answer_same : (request : List ℕ) (q : RequestHead) (o : List ℕ) (b : Block) → AnswerSays s request q o b

@@ -89,7 +89,7 @@ impl<C: Link + Drop, O: Upstream<C> + Drop, P: Transform<Line = TransformLine> +
     ghost are_terms = { AreTerms };
 
     ghost is_setting = { λ setting.
-        IsTxnSetup (arc_value setting.setup) setting.plugins_at × ActsAsLines P.whole };
+        IsTxnSetup (arc_value setting.setup) setting.plugins_at × ActsAsLines P.Transform };
 
     ghost number_of = { λ t. t.core.number };
 
@@ -119,7 +119,7 @@ impl<C: Link + Drop, O: Upstream<C> + Drop, P: Transform<Line = TransformLine> +
         origin: Option<O>,
     ) -> Result<Txn<C, O, P>, NoMemory>
         requires setting { IsTxnSetup (arc_value setting.now.setup) setting.now.plugins_at
-            × ActsAsLines P.whole }
+            × ActsAsLines P.Transform }
         requires arrival { IsArrival C.Link O.Link O.Upstream.own number client origin }
         ensures number { IfOk result (λ guest. guest.core.number ≡ number) }
         ensures origin { IfOk result (λ guest. is_some guest.core.origin ≡ is_some origin) }

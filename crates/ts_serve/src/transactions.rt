@@ -63,7 +63,7 @@ pub fn serve_transactions<
     net: &mut N,
 ) -> Served
     requires setup { IsTxnSetup (arc_value setup) PLACES }
-    requires acts { ActsAsLines Q.whole }
+    requires acts { ActsAsLines Q.Transform }
     requires threads { (0 < threads) × (threads ≤ MOST_THREADS) }
     requires net { IsFreshNet (N.seen net.old) }
     ensures retired { N.tells ≡ true → AreRetired

@@ -1,6 +1,6 @@
 use Rattle.std.proofs.Common.{◌≡◌, ◌-◌, [], rules, length, length-drop, arith, ap, subst, ◌∙◌}
 use Rattle.ts_transform.specs.Flow.{client_wait}
-use Rattle.ts_transform.specs.Driving.{errors_to_pass}
+use Rattle.ts_transform.specs.Driving.{upstream_calls}
 use Rattle.ts_proxy.specs.Sending.{for_client}
 use Rattle.ts_proxy.proofs.Staying.{IsFront, passes_taken, stays_taken}
 use Rattle.ts_proxy.proofs.drive.drain.Goals as goal
@@ -24,7 +24,7 @@ loop-block-preserved g c =
             arith,
             c.loop-block.invariant.falls,
             takes.falls [],
-            ap errors_to_pass
+            ap upstream_calls
                 c.take.ensures.kept.table,
             less,
             c.in-Took.ensures.count.1,
