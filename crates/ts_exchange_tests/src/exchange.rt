@@ -110,7 +110,7 @@ fn make_txn<C: Link + Drop, O: Upstream<C> + Drop, P: Transform<Line = Transform
     client: C,
     origin: Option<O>,
 ) -> Result<(Group<Either<Txn<C, O, P>, Plugin>>, TxnTag<C, O>), NoMemory>
-    requires acts { ActsAsLines P.whole }
+    requires acts { ActsAsLines P.Transform }
     requires setup { IsTxnSetup (arc_value setup) FIRST_PLUGIN }
     requires client { C.tells ≡ true → IsNewLink (C.look client) }
     requires origin { O.tells ≡ true → IsNewLinkIf O.look origin }
@@ -142,7 +142,7 @@ fn begin_txn<C: Link + Drop, O: Upstream<C> + Drop, P: Transform<Line = Transfor
     client: C,
     origin: Option<O>,
 ) -> Result<(Group<Either<Txn<C, O, P>, Plugin>>, TxnTag<C, O>), NoMemory>
-    requires acts { ActsAsLines P.whole }
+    requires acts { ActsAsLines P.Transform }
     requires setup { IsTxnSetup (arc_value setup) FIRST_PLUGIN }
     requires client { C.tells ≡ true → IsNewLink (C.look client) }
     requires origin { O.tells ≡ true → IsNewLinkIf O.look origin }
@@ -221,7 +221,7 @@ pub fn make_row<C: Link + Drop, O: Upstream<C> + Drop, P: Transform<Line = Trans
     client: C,
     origin: Option<O>,
 ) -> Result<GroupRow<C, O, P>, NoMemory>
-    requires acts { ActsAsLines P.whole }
+    requires acts { ActsAsLines P.Transform }
     requires setup { IsTxnSetup setup FIRST_PLUGIN }
     requires client { C.tells ≡ true → IsNewLink (C.look client) }
     requires origin { O.tells ≡ true → IsNewLinkIf O.look origin }
@@ -243,7 +243,7 @@ pub fn begin<C: Link + Drop, O: Upstream<C> + Drop, P: Transform<Line = Transfor
     client: C,
     origin: Option<O>,
 ) -> Result<GroupRow<C, O, P>, NoMemory>
-    requires acts { ActsAsLines P.whole }
+    requires acts { ActsAsLines P.Transform }
     requires setup { IsTxnSetup setup FIRST_PLUGIN }
     requires client { C.tells ≡ true → IsNewLink (C.look client) }
     requires origin { O.tells ≡ true → IsNewLinkIf O.look origin }

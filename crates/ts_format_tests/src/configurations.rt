@@ -11,7 +11,7 @@ use ts_config::{
 use ts_link::{NoMemory, Octets};
 
 /// Configurations, and what is printed of their readings.
-const READ: [(&[u8], &[u8]); 15] = [
+const READ: [(&[u8], &[u8]); 17] = [
     (b"", b""),
     (b"\n \t\n# nothing\n", b""),
     (
@@ -34,6 +34,11 @@ const READ: [(&[u8], &[u8]); 15] = [
         b"delay.so 60000\ndelay.so 0",
         b"delay.so 60000\ndelay.so 0\n",
     ),
+    (
+        b"limit.so 9223372036854775807\nlimit.so 0",
+        b"limit.so 9223372036854775807\nlimit.so 0\n",
+    ),
+    (b"limit.so\t\"100\" # first", b"limit.so 100\n"),
     (b"denylist.so a\n", b"denylist.so a\n"),
     (
         b"header.so response remove x-a\n",
@@ -42,14 +47,24 @@ const READ: [(&[u8], &[u8]); 15] = [
 ];
 
 /// Configurations that are refused, with the first faulty line, counted from 1, and the rule that it breaks.
-const FAULTY: [(&[u8], u64, &str); 15] = [
+const FAULTY: [(&[u8], u64, &str); 25] = [
     (b"prepend.so \"a", 1, "quote"),
     (b"prepend.so \"a\"b", 1, "quote"),
     (b"map.so ab c", 1, "arguments"),
     (b"map.so 0x0A 0x20", 1, "arguments"),
     (b"map.so a", 1, "arguments"),
     (b"null_transform.so\nfoo.so\n", 2, "plugin"),
-    (b"limit.so 3\n", 1, "plugin"),
+    (b"Limit.so 3\n", 1, "plugin"),
+    (b"limit.so", 1, "arguments"),
+    (b"null_transform.so\nlimit.so 1 2", 2, "arguments"),
+    (b"limit.so \"\"", 1, "arguments"),
+    (b"limit.so 03", 1, "arguments"),
+    (b"limit.so +3", 1, "arguments"),
+    (b"limit.so 0x3", 1, "arguments"),
+    (b"limit.so 9223372036854775808", 1, "arguments"),
+    (b"limit.so 18446744073709551616", 1, "arguments"),
+    (b"limit.so 99999999999999999999", 1, "arguments"),
+    (b"limit.so 1\nlimit.so -1", 2, "arguments"),
     (b"null_transform.so x", 1, "arguments"),
     (b"append_transform.so \"\"", 1, "arguments"),
     (b"delay.so 60001", 1, "arguments"),

@@ -82,7 +82,7 @@ const FAULTY: [(&[u8], u64, &str); 20] = [
     (b"header.so request set \"a b\" c", 1, "arguments"),
     (b"header.so request set a: b", 1, "arguments"),
     (b"header.so request set a \x7f", 1, "text"),
-    (b"header.so request remove a\nlimit.so 3\n", 2, "plugin"),
+    (b"header.so request remove a\nlimits.so 3\n", 2, "plugin"),
     (b"Header.so request remove a", 1, "plugin"),
 ];
 

@@ -105,7 +105,7 @@ fn check_lines(
 }
 
 /// Configurations whose files hold `>`, a body, and what is made of it.
-const ROWS: [(&[u8], &[u8], &[u8]); 15] = [
+const ROWS: [(&[u8], &[u8], &[u8]); 25] = [
     (
         b"prepend.so <\nappend_transform.so g\nbnull_transform.so",
         b"a",
@@ -141,6 +141,20 @@ const ROWS: [(&[u8], &[u8], &[u8]); 15] = [
     (b"map.so 0x0a 0x20", b"a\nb\n", b"a b "),
     (b"delay.so 60000\nnull_transform.so", b"abc", b"abc"),
     (b"map.so a b\nmap.so b c\ndrop.so c", b"abcd", b"d"),
+    (b"limit.so 2", b"abc", b"ab"),
+    (b"limit.so 0", b"abc", b""),
+    (b"limit.so 3", b"abc", b"abc"),
+    (b"limit.so 9223372036854775807", b"abc", b"abc"),
+    (b"limit.so 2", b"", b""),
+    (b"limit.so 2\nappend_transform.so g", b"abc", b"ab>"),
+    (b"append_transform.so g\nlimit.so 4", b"abc", b"abc>"),
+    (b"append_transform.so g\nlimit.so 3", b"abc", b"abc"),
+    (
+        b"prepend.so <\nlimit.so 2\nbnull_transform.so\nlimit.so 5\nprepend.so <",
+        b"abc",
+        b"<<a",
+    ),
+    (b"drop.so a\nlimit.so 2\ndrop.so b", b"abc", b"c"),
 ];
 
 /// How often a long body has a `q` in place of an `x`, and how many bytes it has.
@@ -172,6 +186,14 @@ fn chains_give_long_bodies(rt: HostRuntime) -> Result<(), Fail> {
             b"bnull_transform.so",
             body.as_slice(),
             body.as_slice(),
+        )?;
+        let front = long_body(rt.alloc(), every, len.min(65_536), b'q', b'x')?;
+        check(
+            &rt,
+            rt.alloc(),
+            b"limit.so 65536",
+            body.as_slice(),
+            front.as_slice(),
         )?;
         let kept = without_each(rt.alloc(), every, len, b'x')?;
         check(
@@ -209,8 +231,8 @@ fn without_each(alloc: Global, every: u32, len: u32, byte: u8) -> Result<Vec<u8>
 const BODY: &[u8] = b"abc";
 
 /// Lines whose files hold `>`, what each has written once it was fed the body, and once it was ended, and its
-/// pause in milliseconds.
-const IN_TIME: [(&[u8], &[u8], &[u8], u64); 7] = [
+/// pause in milliseconds. Of a limit they hold also where it is fed after it is done.
+const IN_TIME: [(&[u8], &[u8], &[u8], u64); 11] = [
     (b"null_transform.so", b"abc", b"abc", 0),
     (b"append_transform.so g", b"abc", b"abc>", 0),
     (b"bnull_transform.so", b"", b"abc", 0),
@@ -218,6 +240,10 @@ const IN_TIME: [(&[u8], &[u8], &[u8], u64); 7] = [
     (b"map.so b c", b"acc", b"acc", 0),
     (b"drop.so a", b"bc", b"bc", 0),
     (b"delay.so 7", b"abc", b"abc", 7),
+    (b"limit.so 0", b"", b"", 0),
+    (b"limit.so 2", b"ab", b"ab", 0),
+    (b"limit.so 3", b"abc", b"abc", 0),
+    (b"limit.so 4", b"abc", b"abc", 0),
 ];
 
 #[test]

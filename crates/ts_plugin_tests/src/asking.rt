@@ -7,7 +7,7 @@ use ts_config::{PluginLine, Rule, Side, Sites};
 use ts_group::{Group, ONLY_SEAT};
 use ts_hooks::{Hook, HookAnswer};
 use ts_link::{NoMemory, Octets};
-use ts_plugin::{HookQuestion, HookReply, Plugin, table_of};
+use ts_plugin::{HookQuestion, HookReply, Plugin, PluginFault, table_of};
 use ts_wire::{Field, Fields, plugin_host};
 
 /// How many lines a row has at most.
@@ -76,19 +76,101 @@ pub fn question_about(
     })
 }
 
-/// What the plugin of a line replies, which is made and asked in a group of its own.
+/// The group of a plugin that was asked in its first turn, and its reply.
+#[derive(Drop)]
+pub struct Replied {
+    pub group: Group<Plugin>,
+    pub reply: HookReply,
+}
+
+/// The plugin of a line, which is made and asked at a moment in a group of its own.
+pub fn ask_at(
+    alloc: Global,
+    line: &PluginLine,
+    question: HookQuestion,
+    moment: u64,
+) -> Result<Replied, NoMemory> {
+    let plugin = Plugin::make(alloc, line)?;
+    let mut group = Group::make(alloc, plugin, 0)?;
+    group.begin_turn(1, ONLY_SEAT, 0)?;
+    match group.ask(question, moment) {
+        Ok(reply) => {
+            group.give_turn();
+            Ok(Replied { group, reply })
+        }
+        Err((refusal, _question)) => Err(refusal),
+    }
+}
+
+/// What the plugin of a line replies.
 pub fn ask(
     alloc: Global,
     line: &PluginLine,
     question: HookQuestion,
 ) -> Result<HookReply, NoMemory> {
-    let plugin = Plugin::make(alloc, line)?;
-    let mut group = Group::make(alloc, plugin, 0)?;
-    group.begin_turn(1, ONLY_SEAT, 0)?;
-    match group.ask(question, 0) {
-        Ok(reply) => Ok(reply),
-        Err((refusal, _question)) => Err(refusal),
+    let Replied { group: _, reply } = ask_at(alloc, line, question, 0)?;
+    Ok(reply)
+}
+
+/// What a reply says.
+#[derive(Clone, Copy, Debug, PartialEq, Eq)]
+pub enum Outcome {
+    Refused,
+    GoesOn { fields: usize },
+    Lacks,
+}
+
+/// What this reply says.
+pub fn outcome_of(reply: &HookReply) -> Outcome {
+    match reply.answer {
+        Ok(HookAnswer::Error) => Outcome::Refused,
+        Ok(HookAnswer::Continue) => Outcome::GoesOn {
+            fields: reply.fields.items().len(),
+        },
+        Err(PluginFault::NoMemory) => Outcome::Lacks,
     }
+}
+
+/// What the plugin of a line says.
+pub fn asked_outcome(
+    alloc: Global,
+    line: &PluginLine,
+    question: HookQuestion,
+) -> Result<Outcome, NoMemory> {
+    let reply = ask(alloc, line, question)?;
+    Ok(outcome_of(&reply))
+}
+
+// The fields after the plugin of a header rule was asked.
+fn ask_rule(
+    alloc: Global,
+    line: &PluginLine,
+    hook: Hook,
+    host: &[u8],
+    fields: Fields,
+) -> Result<Fields, Fail> {
+    let host = Octets::copy_of(alloc, host)?;
+    let reply = ask(alloc, line, HookQuestion { hook, host, fields })?;
+    match reply.answer {
+        Ok(HookAnswer::Continue) => Ok(reply.fields),
+        _ => Err("a header rule lets go on")?,
+    }
+}
+
+// The places of the lines whose plugins a hook has, in their order.
+fn places_at(alloc: Global, lines: &[PluginLine], hook: Hook) -> Result<Vec<usize>, Fail> {
+    if lines.len() > MOST_LINES {
+        return Err("a row has few lines")?;
+    }
+    let table = table_of(alloc, lines, 0)?;
+    let mut places = Vec::new(alloc);
+    for place in 0..lines.len() {
+        let Some(group) = table.next(hook, place) else {
+            break;
+        };
+        places.push(group as usize)?;
+    }
+    Ok(places)
 }
 
 /// The fields after the plugins of a hook were asked, in the order of their lines.
@@ -100,26 +182,14 @@ pub fn ask_in_turn(
     let HookQuestion {
         hook,
         host,
-        fields: given,
+        mut fields,
     } = question;
-    if lines.len() > MOST_LINES {
-        return Err("a row has few lines")?;
-    }
-    let table = table_of(alloc, lines, 0)?;
-    let mut fields = given;
-    for place in 0..lines.len() {
-        let Some(group) = table.next(hook, place) else {
-            break;
-        };
-        let Some(line) = lines.get(group as usize) else {
+    let places = places_at(alloc, lines, hook)?;
+    for place in places.as_slice() {
+        let Some(line) = lines.get(*place) else {
             return Err("a line stands there")?;
         };
-        let host = Octets::copy_of(alloc, host.bytes())?;
-        let reply = ask(alloc, line, HookQuestion { hook, host, fields })?;
-        let Ok(HookAnswer::Continue) = reply.answer else {
-            return Err("a header rule lets go on")?;
-        };
-        fields = reply.fields;
+        fields = ask_rule(alloc, line, hook, host.bytes(), fields)?;
     }
     Ok(fields)
 }

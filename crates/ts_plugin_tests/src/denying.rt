@@ -1,8 +1,11 @@
 //! Deny lists: which hosts they refuse, and at which hook.
 
-use crate::asking::{ask, deny_line, question_for};
+use crate::asking::{Outcome, asked_outcome, deny_line, question_for};
+use std::alloc::Global;
 use std::test::Fail;
-use ts_hooks::{Hook, HookAnswer};
+use ts_config::PluginLine;
+use ts_hooks::Hook;
+use ts_link::NoMemory;
 
 const SITES: [&[u8]; 4] = [b"Example.COM", b"[::F]", b"b", b"10.0.0.1"];
 
@@ -33,16 +36,23 @@ const ROWS: [(Hook, &[u8], bool); 23] = [
     (Hook::TxnClose, b"b", false),
 ];
 
+// What a deny list of these sites says of a host at a hook.
+fn said_of(alloc: Global, line: &PluginLine, hook: Hook, host: &[u8]) -> Result<Outcome, NoMemory> {
+    let question = question_for(alloc, hook, host)?;
+    asked_outcome(alloc, line, question)
+}
+
 #[test]
 fn a_deny_list_refuses_its_sites_at_the_lookup_alone(rt: HostRuntime) -> Result<(), Fail> {
     let line = deny_line(rt.alloc(), &SITES)?;
     for (place, (hook, host, refused)) in ROWS.iter().enumerate() {
-        let question = question_for(rt.alloc(), *hook, host)?;
-        let reply = ask(rt.alloc(), &line, question)?;
-        let refuses = matches!(reply.answer, Ok(HookAnswer::Error));
-        let goes_on = matches!(reply.answer, Ok(HookAnswer::Continue));
-        assert_eq!(rt; (refuses, goes_on), (*refused, !*refused), "row {place}");
-        assert!(rt; reply.fields.items().is_empty());
+        let wanted = if *refused {
+            Outcome::Refused
+        } else {
+            Outcome::GoesOn { fields: 0 }
+        };
+        let found = said_of(rt.alloc(), &line, *hook, host);
+        assert_eq!(rt; found, Ok(wanted), "row {place}");
     }
     Ok(())
 }

@@ -1,9 +1,9 @@
 //! The plugin of a line in a group: what its journal records of a question.
 
-use crate::asking::{deny_line, question_for};
+use crate::asking::{Outcome, ask_at, deny_line, outcome_of, question_for};
 use std::test::Fail;
 use ts_group::{Group, ONLY_SEAT, OWN_KEY};
-use ts_hooks::{Hook, HookAnswer};
+use ts_hooks::Hook;
 use ts_journal::{Entry, Event};
 use ts_plugin::{Plugin, asked_in_order};
 
@@ -28,20 +28,18 @@ const OF_A_QUESTION: &[Entry] = &[
     Entry::Gave { turn: 1 },
 ];
 
+// Whether nothing is pending in a group, and its journal has these entries.
+fn has_recorded(group: &Group<Plugin>, entries: &[Entry]) -> bool {
+    group.next_due().is_none() && group.journal().entries() == entries
+}
+
 #[test]
 fn a_question_is_recorded_and_leaves_nothing_pending(rt: HostRuntime) -> Result<(), Fail> {
     let line = deny_line(rt.alloc(), &[b"b"])?;
-    let plugin = Plugin::make(rt.alloc(), &line)?;
-    let mut group = Group::make(rt.alloc(), plugin, 0)?;
-    group.begin_turn(1, ONLY_SEAT, 0)?;
     let question = question_for(rt.alloc(), Hook::OsDns, b"B:80")?;
-    let Ok(reply) = group.ask(question, 5) else {
-        return Err("ample memory")?;
-    };
-    group.give_turn();
-    assert!(rt; matches!(reply.answer, Ok(HookAnswer::Error)));
-    assert_eq!(rt; group.next_due(), None);
-    assert_eq!(rt; group.journal().entries(), OF_A_QUESTION);
+    let replied = ask_at(rt.alloc(), &line, question, 5)?;
+    assert_eq!(rt; outcome_of(&replied.reply), Outcome::Refused);
+    assert!(rt; has_recorded(&replied.group, OF_A_QUESTION));
     asked_in_order();
     Ok(())
 }

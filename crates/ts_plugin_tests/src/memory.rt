@@ -1,13 +1,12 @@
 //! Plugins of which an allocation may be refused: each replies what its line says, or that memory lacked.
 
-use crate::asking::{ask, deny_line, question_for};
+use crate::asking::{Outcome, asked_outcome, deny_line, question_for};
 use http_header::{HeaderName, HeaderValue};
 use std::alloc::Global;
 use std::test::Fail;
 use ts_config::{PluginLine, Rule, Side};
-use ts_hooks::{Hook, HookAnswer};
+use ts_hooks::Hook;
 use ts_link::NoMemory;
-use ts_plugin::{HookReply, PluginFault};
 use ts_wire::Field;
 
 // Which line is asked: a deny list of two sites, or a rule that sets a field behind another one.
@@ -15,14 +14,6 @@ use ts_wire::Field;
 enum Line {
     Deny,
     Header,
-}
-
-// What a plugin replied.
-#[derive(Clone, Copy, Debug, PartialEq, Eq)]
-enum Outcome {
-    Refused,
-    GoesOn { fields: usize },
-    Lacks,
 }
 
 // A field of this name.
@@ -33,21 +24,11 @@ fn field(name: HeaderName) -> Field {
     }
 }
 
-fn outcome_of(reply: &HookReply) -> Outcome {
-    match reply.answer {
-        Ok(HookAnswer::Error) => Outcome::Refused,
-        Ok(HookAnswer::Continue) => Outcome::GoesOn {
-            fields: reply.fields.items().len(),
-        },
-        Err(PluginFault::NoMemory) => Outcome::Lacks,
-    }
-}
-
 // The reply of a deny list to a question for one of its sites.
 fn ask_list(alloc: Global) -> Result<Outcome, NoMemory> {
     let line = deny_line(alloc, &[b"b", b"a"])?;
     let question = question_for(alloc, Hook::OsDns, b"A:1")?;
-    Ok(outcome_of(&ask(alloc, &line, question)?))
+    asked_outcome(alloc, &line, question)
 }
 
 // The reply of a rule to a question about one other field.
@@ -59,7 +40,7 @@ fn ask_rule(alloc: Global) -> Result<Outcome, NoMemory> {
     };
     let mut question = question_for(alloc, Hook::SendRequestHdr, b"a")?;
     question.fields.push(field(HeaderName::from_static("x-b")))?;
-    Ok(outcome_of(&ask(alloc, &line, question)?))
+    asked_outcome(alloc, &line, question)
 }
 
 fn ask_once(alloc: Global, line: Line) -> Result<Outcome, NoMemory> {

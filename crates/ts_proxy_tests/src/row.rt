@@ -1,7 +1,7 @@
 //! Rows: a recorded transaction under a configuration, and what is stated of it.
 
 use crate::command::{ON_2, ON_8, REPLAY, replayed};
-use crate::comparison::{Comparison, compare, done};
+use crate::comparison::{Comparison, Wanted, compare, done};
 use crate::recording::{Exchange, at_once, in_pieces, recording_of};
 use crate::report::{Stated, StatedEnd, report_of};
 use crate::stated::{GET, HEAD, HEAD_SENT, in_chunks, passed};
@@ -62,6 +62,19 @@ pub fn dripping(row: Row<'_>) -> Row<'_> {
     }
 }
 
+/// Whether these words leave what they are to leave, over a configuration and a recording.
+pub fn compared<R: Threads + Wait + Sync>(
+    rt: &R,
+    alloc: Global,
+    words: &[&str],
+    config: &[u8],
+    recording: &[u8],
+    wanted: &Wanted<'_>,
+) -> Result<Comparison, NoMemory> {
+    let left = replayed(rt, alloc, words, config, recording)?;
+    Ok(compare(&left, wanted))
+}
+
 /// Whether transactions come out as stated where these words replay them under a configuration, so many lines
 /// of which are of hook plugins.
 pub fn check_with<R: Threads + Wait + Sync>(
@@ -75,9 +88,9 @@ pub fn check_with<R: Threads + Wait + Sync>(
 ) -> Result<Comparison, NoMemory> {
     let recording = recording_of(alloc, exchanges)?;
     let report = report_of(alloc, stated)?;
-    let left = replayed(rt, alloc, words, config, recording.as_slice())?;
     let journals = stated.len().saturating_add(plugins);
-    Ok(compare(&left, &done(report.as_slice(), journals)))
+    let wanted = done(report.as_slice(), journals);
+    compared(rt, alloc, words, config, recording.as_slice(), &wanted)
 }
 
 /// Whether a row comes out as stated on 1, 2 and 8 threads.

@@ -3,9 +3,13 @@
 use crate::ends::check_all;
 use crate::finding::{Finding, judge};
 use crate::pages::{mixed_visits_of, pages_of, visits_of};
-use crate::row::{all_come, net_of_row, serve_net};
-use crate::seats::first_seat;
+use crate::refusal::Refusal;
+use crate::row::{Row, all_come, net_of_row, serve_net};
+use crate::seats::are_of_two_seats;
+use std::alloc::Global;
+use std::sync::Wait;
 use std::test::Fail;
+use std::thread::Threads;
 use ts_link::MeetGate;
 use ts_serve::Served;
 
@@ -17,29 +21,36 @@ fn a_thousand_clients_are_served(rt: HostRuntime) -> Result<(), Fail> {
     check_all(&rt, &all_come(visits.as_slice()))
 }
 
+// What is found of a net whose handlers wait for each other, and whether it was served whole, and two of
+// them met under different seats.
+fn beside<R: Threads + Wait + Sync>(
+    rt: &R,
+    alloc: Global,
+    threads: u32,
+    row: &Row<'_>,
+) -> Result<(Finding, bool), Refusal> {
+    let mut net = net_of_row(alloc, row)?;
+    let gate = MeetGate::make(20_000_000);
+    let served = serve_net(rt, alloc, threads, b"", row.most, &gate, &mut net)?;
+    let found = judge(alloc, row.visits, row.came, net.retired())?;
+    let met = served == Served::Whole && gate.met();
+    Ok((found, met && are_of_two_seats(net.retired())))
+}
+
 // Two transactions, each of which waits in its first handler for the other: the first events of the two were
 // handled under different seats.
 #[test]
 fn two_transactions_run_beside_each_other(rt: HostRuntime) -> Result<(), Fail> {
-    let alloc = rt.alloc();
-    let pages = pages_of(alloc, 2)?;
-    let visits = visits_of(alloc, pages.as_slice())?;
+    let pages = pages_of(rt.alloc(), 2)?;
+    let visits = visits_of(rt.alloc(), pages.as_slice())?;
     let row = all_come(visits.as_slice());
     for threads in [2, 8] {
-        let mut met = net_of_row(alloc, &row)?;
-        let gate = MeetGate::make(20_000_000);
-        let served = serve_net(&rt, alloc, threads, b"", row.most, &gate, &mut met)?;
-        assert_eq!(rt; served, Served::Whole);
-        assert!(rt; gate.met());
-        let found = judge(alloc, row.visits, row.came, met.retired());
-        assert_eq!(rt; found, Ok(Finding::AsStated));
-        let [one, other] = met.retired() else {
-            return Err("two were handed over")?;
-        };
-        let first = first_seat(one.journal.entries());
-        let second = first_seat(other.journal.entries());
-        assert!(rt; first.is_some() && second.is_some());
-        assert!(rt; first != second);
+        let found = beside(&rt, rt.alloc(), threads, &row);
+        assert_eq!(rt;
+            found,
+            Ok((Finding::AsStated, true)),
+            "on {threads} threads"
+        );
     }
     Ok(())
 }

@@ -2,9 +2,11 @@
 
 use crate::links::{Counting, Side, at_once, steady};
 use crate::pages::{mixed_visits_of, pages_of, visits_of};
+use crate::refusal::Refusal;
 use crate::row::{Outcome, Row, all_come, check, net_of_row, serve_net};
 use crate::stated::{BAD_GATEWAY, CHUNKED, GET};
 use crate::visit::{Visit, page};
+use std::alloc::Global;
 use std::process::Abort;
 use std::sync::Wait;
 use std::test::Fail;
@@ -67,13 +69,22 @@ fn a_net_that_fails_is_asked_for_nobody_more(rt: HostRuntime) -> Result<(), Fail
     Ok(())
 }
 
+// How often a net is found closed that is served on two threads.
+fn ends_seen<R: Threads + Wait + Sync>(
+    rt: &R,
+    alloc: Global,
+    row: &Row<'_>,
+) -> Result<u64, Refusal> {
+    let mut net = net_of_row(alloc, row)?;
+    serve_net(rt, alloc, 2, b"", row.most, &OpenGate::make(), &mut net)?;
+    Ok(net.counts().ends)
+}
+
 // No more clients are let in than are to come, and the net is not asked whether it is closed.
 #[test]
 fn as_many_clients_come_as_are_to(rt: HostRuntime) -> Result<(), Fail> {
-    let alloc = rt.alloc();
-    let pages = pages_of(alloc, 3)?;
-    let visits = mixed_visits_of(alloc, pages.as_slice())?;
-    let gate = OpenGate::make();
+    let pages = pages_of(rt.alloc(), 3)?;
+    let visits = mixed_visits_of(rt.alloc(), pages.as_slice())?;
     for most in 0..3 {
         let row = Row {
             most,
@@ -81,9 +92,7 @@ fn as_many_clients_come_as_are_to(rt: HostRuntime) -> Result<(), Fail> {
             ..all_come(visits.as_slice())
         };
         check_all(&rt, &row)?;
-        let mut served = net_of_row(alloc, &row)?;
-        serve_net(&rt, alloc, 2, b"", most, &gate, &mut served)?;
-        assert_eq!(rt; served.counts().ends, 0, "of {most}");
+        assert_eq!(rt; ends_seen(&rt, rt.alloc(), &row), Ok(0), "of {most}");
     }
     Ok(())
 }

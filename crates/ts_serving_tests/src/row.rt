@@ -129,6 +129,15 @@ pub fn compare_end<N: Drop>(row: &Row<'_>, left: &Remains<N>) -> Outcome {
     Outcome::AsStated
 }
 
+/// What comes of a run whose clients this was found of.
+pub fn outcome_of(found: Finding) -> Outcome {
+    match found {
+        Finding::AsStated => Outcome::AsStated,
+        Finding::Lacks => Outcome::Lacks,
+        other => Outcome::Other(other),
+    }
+}
+
 /// Whether the run left what its row states.
 pub fn compare(alloc: Global, row: &Row<'_>, left: &Remains<MemNet>) -> Result<Outcome, NoMemory> {
     let ended = compare_end(row, left);
@@ -136,11 +145,7 @@ pub fn compare(alloc: Global, row: &Row<'_>, left: &Remains<MemNet>) -> Result<O
         return Ok(ended);
     }
     let found = judge(alloc, row.visits, row.came, left.net.retired())?;
-    Ok(match found {
-        Finding::AsStated => Outcome::AsStated,
-        Finding::Lacks => Outcome::Lacks,
-        other => Outcome::Other(other),
-    })
+    Ok(outcome_of(found))
 }
 
 /// Whether a row comes out as stated on so many threads.

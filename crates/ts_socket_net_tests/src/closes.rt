@@ -113,21 +113,32 @@ fn an_answer_before_a_second_request_comes_whole_at_the_end(rt: HostRuntime) -> 
     Ok(())
 }
 
+// Lets a net take a client and dial its origin, hands both over, and gives the two other ends.
+fn hand_over<R: net::Net + time::Clock + AllocGlobal, C: Clock>(
+    rt: &R,
+    net: &mut SocketNet<'_, R, C>,
+) -> io::Result<(SocketLink, SocketLink)> {
+    let (listener, origin_port) = listen(rt)?;
+    let port = begin(rt, net, origin_port)?;
+    let client = connect(rt, port)?;
+    let served = accept(rt, net)?;
+    let Dialed::Origin(dialed) = net.dial() else {
+        return Err(io::Error::other("no origin"));
+    };
+    MonotonicClock::new(rt).pause(5);
+    let origin = StreamLink::new(listener.accept()?.0, 0);
+    match net.retire(retired(rt, served, Some(dialed))?) {
+        Ok(()) => Ok((client, origin)),
+        Err(_) => Err(io::Error::other("it was not taken")),
+    }
+}
+
 // Only the client lingers: its origin is closed at once.
 #[test]
 fn an_origin_is_closed_where_its_client_lingers(rt: HostRuntime) -> Result<(), Fail> {
     let clock = MonotonicClock::new(&rt);
     let mut net = SocketNet::new(&rt, rt.alloc(), &clock);
-    let (listener, origin_port) = listen(&rt)?;
-    let port = begin(&rt, &mut net, origin_port)?;
-    let mut client = connect(&rt, port)?;
-    let served = accept(&rt, &mut net)?;
-    let Dialed::Origin(dialed) = net.dial() else {
-        panic!(rt; "no origin");
-    };
-    clock.pause(5);
-    let mut origin = StreamLink::new(listener.accept()?.0, 0);
-    assert!(rt; net.retire(retired(&rt, served, Some(dialed))?).is_ok());
+    let (mut client, mut origin) = hand_over(&rt, &mut net)?;
     let mut room = [0u8; 8];
     assert!(rt; read_waiting(&rt, &mut client, &mut room) == Got::End);
     assert!(rt; read_waiting(&rt, &mut origin, &mut room) == Got::End);

@@ -4,7 +4,7 @@ ghost use Rattle.std.specs.Prelude.{◌≡◌, false, IfOk};
 use crate::tail::{Tail, letters, tails};
 use std::alloc::Global;
 use std::test::Fail;
-use ts_transform::{Chain, Pumped};
+use ts_transform::{Chain, Pumped, Transform};
 
 // A chain of tails of these texts, which got a body.
 fn chain_over(alloc: Global, texts: &[&[u8]], body: &[u8]) -> Result<Chain<Tail>, Fail>
@@ -15,8 +15,11 @@ fn chain_over(alloc: Global, texts: &[&[u8]], body: &[u8]) -> Result<Chain<Tail>
     Ok(chain)
 }
 
-// Lets stages of a chain work, and tells whether each answers as its row says.
-fn answers(chain: &mut Chain<Tail>, rows: &[(usize, Pumped)]) -> Result<bool, Fail> {
+/// Lets stages of a chain work, and tells whether each answers as its row says.
+pub fn answers<P: Transform + Drop>(
+    chain: &mut Chain<P>,
+    rows: &[(usize, Pumped)],
+) -> Result<bool, Fail> {
     for (at, answer) in rows {
         if *at >= chain.stages() || chain.pump(*at)? != *answer {
             return Ok(false);

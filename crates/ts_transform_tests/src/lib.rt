@@ -9,6 +9,8 @@ mod carried;
 #[cfg(test)]
 mod driven;
 #[cfg(test)]
+mod early;
+#[cfg(test)]
 mod links;
 #[cfg(test)]
 mod quoting;

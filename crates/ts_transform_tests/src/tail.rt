@@ -1,6 +1,9 @@
 //! A transform for tests, which writes a tail behind a body.
 
-ghost use Rattle.std.specs.Prelude.{◌++◌};
+ghost use Rattle.std.specs.Prelude.{◌++◌, [], Some};
+ghost use Rattle.std.proofs.Common.{sym};
+ghost use Rattle.std.proofs.lemmas.Bool.{false≢true};
+ghost use Rattle.std.proofs.lemmas.Option.{same_Some};
 
 use std::alloc::Global;
 use ts_iobuf::{IoBuffer, ReaderId};
@@ -17,6 +20,10 @@ impl Transform for Tail {
     type Line = Octets;
 
     ghost rest = { λ s z. z ++ s.text };
+
+    ghost soon = { λ s z. Some z };
+
+    ghost line_soon = { λ line z. Some z };
 
     ghost whole = { λ line z. z ++ line };
 
@@ -48,9 +55,17 @@ impl Transform for Tail {
         out.write(self.text.bytes())
     }
 
+    fn done(&self) -> bool {
+        false
+    }
+
     fn pause(&self) -> u64 {
         0
     }
+
+    ghost is_done = { λ s is. absurd (false≢true is) };
+
+    ghost is_silent = { λ s w is. sym (same_Some [] w is) };
 }
 
 // A tail of a text.

@@ -6,6 +6,8 @@ mod answers;
 #[cfg(test)]
 mod bodies;
 #[cfg(test)]
+mod early;
+#[cfg(test)]
 mod framings;
 #[cfg(test)]
 mod large;

@@ -3,15 +3,17 @@
 
 use super::check_all;
 use crate::command::{ON_1, ON_2, ON_8, REPLAY, replayed};
-use crate::comparison::{Comparison, compare, stopped};
+use crate::comparison::{Comparison, compare, done, stopped};
 use crate::moments::{handled_in, waits_of};
 use crate::parts::{add_ended, add_number};
 use crate::recording::{at_once, recording_of};
-use crate::report::StatedEnd;
-use crate::row::{Row, check_with, get};
-use crate::stated::{ABC, GET, HOSTLESS};
+use crate::report::{Stated, StatedEnd, report_of};
+use crate::row::{Row, check_with, compared, get};
+use crate::stated::{ABC, GET, HOSTLESS, SIZED};
 use std::alloc::Global;
+use std::sync::Wait;
 use std::test::Fail;
+use std::thread::Threads;
 use ts_journal::Journal;
 use ts_link::NoMemory;
 
@@ -73,6 +75,26 @@ fn most_lines(rt: HostRuntime) -> Result<(), Fail> {
     check_all(&rt, &rows)
 }
 
+// Whether a line of a hook plugin more than there may be, with so many transform lines, is refused with this
+// line.
+fn come_of_too_many<R: Threads + Wait + Sync>(
+    rt: &R,
+    alloc: Global,
+    transforms: usize,
+    recording: &[u8],
+    line: &[u8],
+) -> Result<Comparison, NoMemory> {
+    let config = adding(alloc, MOST_PLUGINS + 1, transforms)?;
+    compared(
+        rt,
+        alloc,
+        REPLAY,
+        config.as_slice(),
+        recording,
+        &stopped(3, line),
+    )
+}
+
 // The 65th line of a hook plugin is one too many, whatever transform lines stand between them.
 #[test]
 fn a_line_too_many(rt: HostRuntime) -> Result<(), Fail> {
@@ -83,10 +105,8 @@ fn a_line_too_many(rt: HostRuntime) -> Result<(), Fail> {
         (16, b"tsx: configuration line 81: too-many\n"),
     ];
     for (transforms, line) in rows {
-        let config = adding(alloc, MOST_PLUGINS + 1, transforms)?;
-        let left = replayed(&rt, alloc, REPLAY, config.as_slice(), recording.as_slice())?;
-        let found = compare(&left, &stopped(3, line));
-        assert_eq!(rt; found, Comparison::AsStated, "{transforms} transforms");
+        let found = come_of_too_many(&rt, alloc, transforms, recording.as_slice(), line);
+        assert_eq!(rt; found, Ok(Comparison::AsStated), "{transforms} transforms");
     }
     Ok(())
 }
@@ -109,6 +129,29 @@ fn plugins_without_transactions(rt: HostRuntime) -> Result<(), Fail> {
     Ok(())
 }
 
+// How many events each of three plugins has handled, behind four transactions; none where the command failed,
+// or other journals are left.
+fn questions_of<R: Threads + Wait + Sync>(
+    rt: &R,
+    alloc: Global,
+    words: &[&str],
+    config: &[u8],
+    recording: &[u8],
+) -> Result<[u64; 3], NoMemory> {
+    let left = replayed(rt, alloc, words, config, recording)?;
+    if left.status != 0 {
+        return Ok([0, 0, 0]);
+    }
+    Ok(match left.journals.as_slice() {
+        [_, _, _, _, one, two, three] => [
+            one.counts().handled,
+            two.counts().handled,
+            three.counts().handled,
+        ],
+        _ => [0, 0, 0],
+    })
+}
+
 // The journals of the plugins stand behind those of the transactions, in the order of the lines. Each plugin
 // handled an event for each question: the rule of responses was asked of the denied request and of the one
 // that cannot be read too, the deny list of those that can be read, and the rule of requests of the one that
@@ -124,20 +167,14 @@ fn journals_of_plugins(rt: HostRuntime) -> Result<(), Fail> {
     ];
     let recording = recording_of(rt.alloc(), &exchanges)?;
     for words in [ON_1, ON_2, ON_8] {
-        let left = replayed(&rt, rt.alloc(), words, config, recording.as_slice())?;
-        assert_eq!(rt; left.status, 0);
-        let [_, _, _, _, responses, hosts, requests] = left.journals.as_slice() else {
-            return Err("there are seven journals")?;
-        };
-        assert_eq!(rt; responses.counts().handled, 3, "at {words:?}");
-        assert_eq!(rt; hosts.counts().handled, 2, "at {words:?}");
-        assert_eq!(rt; requests.counts().handled, 1, "at {words:?}");
+        let questions = questions_of(&rt, rt.alloc(), words, config, recording.as_slice());
+        assert_eq!(rt; questions, Ok([3, 2, 1]), "at {words:?}");
     }
     Ok(())
 }
 
 // What came of transactions that all ask one plugin.
-#[derive(Clone, Copy, Debug, PartialEq, Eq)]
+#[derive(Clone, Copy)]
 struct Tally {
     txns: usize,
     /// How many events the transactions handled.
@@ -190,6 +227,78 @@ fn near_request(alloc: Global, front: &[u8]) -> Result<Vec<u8>, NoMemory> {
     Ok(request)
 }
 
+// Such a crowd: the configuration, the recording of as many transactions as there may be, and the report.
+#[derive(Drop)]
+struct Crowd {
+    config: Vec<u8>,
+    recording: Vec<u8>,
+    report: Vec<u8>,
+}
+
+// What the origin gets of such a request.
+fn near_sent(alloc: Global, front: &[u8]) -> Result<Vec<u8>, NoMemory> {
+    let mut request = Vec::from_slice(alloc, b"GET / HTTP/1.1\r\nhost: ")?;
+    request.extend_from_slice(front)?;
+    request.extend_from_slice(b"a\r\nvia: 1.1 tsx\r\nconnection: close\r\n\r\n")?;
+    Ok(request)
+}
+
+// The recording of as many such requests as there may be.
+fn near_recording(alloc: Global, front: &[u8]) -> Result<Vec<u8>, NoMemory> {
+    let request = near_request(alloc, front)?;
+    let exchanges = vec![in alloc; at_once(request.as_slice(), ABC); MOST_TXNS]?;
+    recording_of(alloc, exchanges.as_slice())
+}
+
+// The report on it.
+fn near_report(alloc: Global, front: &[u8]) -> Result<Vec<u8>, NoMemory> {
+    let request = near_sent(alloc, front)?;
+    let stated = Stated {
+        request: request.as_slice(),
+        head: SIZED,
+        came: StatedEnd::Whole(b"abc"),
+    };
+    let all = vec![in alloc; stated; MOST_TXNS]?;
+    report_of(alloc, all.as_slice())
+}
+
+fn make_crowd(alloc: Global) -> Result<Crowd, NoMemory> {
+    let front = b"aaaaaaaaaaaaaaaaaaa";
+    Ok(Crowd {
+        config: near_sites(alloc, front)?,
+        recording: near_recording(alloc, front)?,
+        report: near_report(alloc, front)?,
+    })
+}
+
+// What came of a crowd on some threads, if it left its report.
+fn came_of<R: Threads + Wait + Sync>(
+    rt: &R,
+    alloc: Global,
+    words: &[&str],
+    crowd: &Crowd,
+) -> Result<Option<Tally>, NoMemory> {
+    let config = crowd.config.as_slice();
+    let left = replayed(rt, alloc, words, config, crowd.recording.as_slice())?;
+    let wanted = done(crowd.report.as_slice(), MOST_TXNS + 1);
+    if compare(&left, &wanted) != Comparison::AsStated {
+        return Ok(None);
+    }
+    Ok(tally_of(left.journals.as_slice()))
+}
+
+// Whether each transaction has asked once, and has waited as often as it has handled events more than
+// without a miss; where entries were folded, no more often is told.
+fn is_counted(busy: &Tally, calm: &Tally) -> bool {
+    let more = busy.handled.wrapping_sub(calm.handled);
+    let is_whole = busy.txns == MOST_TXNS && busy.questions == MOST_TXNS as u64;
+    let is_stored = busy.stored == busy.handled;
+    is_whole
+        && busy.handled >= calm.handled
+        && busy.waits <= more
+        && (busy.waits == more || !is_stored)
+}
+
 // How often as many transactions as there may be are run, until one of them misses its plugin.
 const MOST_RUNS: usize = 20;
 
@@ -199,35 +308,18 @@ const MOST_RUNS: usize = 20;
 // at least: on one of them a thread hardly ever stops within a turn.
 #[test]
 fn a_plugin_that_is_missed(rt: HostRuntime) -> Result<(), Fail> {
-    let alloc = rt.alloc();
-    let front = vec![in alloc; b'a'; 19]?;
-    let config = near_sites(alloc, front.as_slice())?;
-    let request = near_request(alloc, front.as_slice())?;
-    let exchanges = vec![in alloc; at_once(request.as_slice(), ABC); MOST_TXNS]?;
-    let recording = recording_of(alloc, exchanges.as_slice())?;
-    let alone = replayed(&rt, alloc, ON_1, config.as_slice(), recording.as_slice())?;
-    let Some(calm) = tally_of(alone.journals.as_slice()) else {
-        return Err("the plugin has a journal")?;
+    let crowd = make_crowd(rt.alloc())?;
+    let Some(calm) = came_of(&rt, rt.alloc(), ON_1, &crowd)? else {
+        return Err("it leaves its report on one thread")?;
     };
     assert_eq!(rt; calm.waits, 0);
-    let two = replayed(&rt, alloc, ON_2, config.as_slice(), recording.as_slice())?;
-    assert!(rt; two.out.written() == alone.out.written());
+    assert!(rt; came_of(&rt, rt.alloc(), ON_2, &crowd)?.is_some());
     for _ in 0..MOST_RUNS {
-        let left = replayed(&rt, alloc, ON_8, config.as_slice(), recording.as_slice())?;
-        assert!(rt; left.out.written() == alone.out.written());
-        let Some(busy) = tally_of(left.journals.as_slice()) else {
-            return Err("the plugin has a journal")?;
+        let Some(busy) = came_of(&rt, rt.alloc(), ON_8, &crowd)? else {
+            return Err("it leaves its report on eight threads")?;
         };
-        assert_eq!(rt; busy.txns, MOST_TXNS);
-        assert_eq!(rt; busy.questions, MOST_TXNS as u64);
-        let Some(more) = busy.handled.checked_sub(calm.handled) else {
-            return Err("each transaction handles all of its events")?;
-        };
-        assert!(rt; busy.waits <= more);
-        if busy.stored == busy.handled {
-            assert_eq!(rt; busy.waits, more);
-        }
-        if more > 0 {
+        assert!(rt; is_counted(&busy, &calm));
+        if busy.handled > calm.handled {
             return Ok(());
         }
     }

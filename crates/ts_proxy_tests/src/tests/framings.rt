@@ -2,13 +2,16 @@
 
 use super::check_all;
 use crate::recording::at_once;
-use crate::report::{Stated, StatedEnd};
+use crate::report::{Stated, StatedEnd, report_of};
 use crate::row::{Row, chunked, dripping, get, head};
 use crate::stated::{ABC, APPEND, BAD_CHUNKS, CHUNKED, CUT, LESS, PLAIN, SIZED};
 use std::test::Fail;
 
 // The head of a response of three bytes.
 const ABC_HEAD: &[u8] = b"HTTP/1.1 200 OK\r\nContent-Length: 3\r\n\r\n";
+
+// A limit behind a line that holds a body back.
+const HELD_BACK: &[u8] = b"bnull_transform.so\nlimit.so 2";
 
 // A request of HTTP/1.0, which gets no chunks.
 fn older<'a>(config: &'a [u8], got: &'a [u8], body: &'a [u8]) -> Row<'a> {
@@ -142,6 +145,24 @@ fn bodies_that_are_not_whole(rt: HostRuntime) -> Result<(), Fail> {
             StatedEnd::Whole(b"abc"),
         ),
     ];
+    check_all(&rt, &rows)?;
+    check_all(&rt, &rows.map(dripping))
+}
+
+// The body is cut behind two bytes: a limit of as many makes it whole, and one of more does not, nor does any
+// behind a line that holds the body back. The numbers are the lengths of the whole reports.
+#[test]
+fn limits_over_a_body_that_is_cut(rt: HostRuntime) -> Result<(), Fail> {
+    let rows = [
+        get(b"limit.so 2", CUT, CHUNKED, StatedEnd::Whole(b"ab")),
+        get(b"limit.so 3", CUT, CHUNKED, StatedEnd::Cut),
+        get(b"limit.so 0", CUT, CHUNKED, StatedEnd::Whole(b"")),
+        get(HELD_BACK, CUT, CHUNKED, StatedEnd::Cut),
+    ];
+    let lengths = [205, 193, 203, 193];
+    for (row, length) in rows.iter().zip(lengths) {
+        assert_eq!(rt; report_of(rt.alloc(), &[row.stated])?.len(), length);
+    }
     check_all(&rt, &rows)?;
     check_all(&rt, &rows.map(dripping))
 }

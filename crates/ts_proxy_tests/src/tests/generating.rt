@@ -3,7 +3,7 @@
 
 use crate::command::{USAGE, failing_sink, left_by, wide_sink};
 use crate::comparison::{Comparison, Wanted, compare, done, stopped};
-use crate::seats::first_seat;
+use crate::seats::are_of_two_seats;
 use std::process::Abort;
 use std::sync::Wait;
 use std::test::Fail;
@@ -132,12 +132,6 @@ fn generated_transactions_run_beside_each_other(rt: HostRuntime) -> Result<(), F
     assert!(rt; gate.met());
     let wanted = done(b"transactions 2\nwhole 2\nbody 2\nsum 1920\n", 2);
     assert_eq!(rt; compare(&left, &wanted), Comparison::AsStated);
-    let [one, other] = left.journals.as_slice() else {
-        return Err("there are two journals")?;
-    };
-    let first = first_seat(one.entries());
-    let second = first_seat(other.entries());
-    assert!(rt; first.is_some() && second.is_some());
-    assert!(rt; first != second);
+    assert!(rt; are_of_two_seats(left.journals.as_slice()));
     Ok(())
 }

@@ -1,14 +1,16 @@
 //! Recordings of version 2: sides that stall make no difference, and of a client that leaves the report shows
 //! the request and as much of the head as it took.
 
-use crate::command::{ON_8, REPLAY, replayed};
-use crate::comparison::{Comparison, compare, done, stopped};
+use super::refusals::refused;
+use crate::command::{ON_8, REPLAY};
+use crate::comparison::{Comparison, done};
 use crate::parts::{add_number, add_part};
 use crate::report::{Stated, StatedEnd, report_of};
+use crate::row::compared;
 use crate::stated::{
     ABC, APPEND, BAD_CHUNKS, BAD_GATEWAY, BAD_REQUEST, CHUNKED, CUT, FORBIDDEN, GET, HEAD,
-    HEAD_SENT, HOSTLESS, LESS, PAGE, PAGE_HEAD, PLAIN, SIZED, USUAL, USUAL_SENT, in_chunks, paged,
-    passed, unasked,
+    HEAD_SENT, HOSTLESS, LESS, NOTHING, PAGE, PAGE_HEAD, PLAIN, SIZED, USUAL, USUAL_SENT,
+    in_chunks, paged, passed, unasked,
 };
 use std::alloc::Global;
 use std::process::Abort;
@@ -28,7 +30,8 @@ close\n\
 end\n";
 
 // A transaction of version 2: what its two sides send, in pieces of at most so many bytes, before each of
-// which and before the end of each side so many reads wait, and how many bytes the client takes, if it leaves.
+// which and before the end of each side so many reads wait, and how many bytes the client takes, if it
+// leaves.
 #[derive(Clone, Copy)]
 struct Stalling<'a> {
     client: &'a [u8],
@@ -147,11 +150,35 @@ fn comes_to<R: Abort + AllocGlobal + Threads + Wait + Sync>(
     journals: usize,
 ) -> Result<(), Fail> {
     for words in [REPLAY, ON_8] {
-        let remains = replayed(rt, rt.alloc(), words, config, recording)?;
-        let found = compare(&remains, &done(report, journals));
+        let wanted = done(report, journals);
+        let found = compared(rt, rt.alloc(), words, config, recording, &wanted)?;
         assert_eq!(rt; found, Comparison::AsStated, "at {words:?}");
     }
     Ok(())
+}
+
+// A transaction comes to this report under a configuration, with so many journals.
+fn is_reported<R: Abort + AllocGlobal + Threads + Wait + Sync>(
+    rt: &R,
+    config: &[u8],
+    txn: &Stalling<'_>,
+    report: &[u8],
+    journals: usize,
+) -> Result<(), Fail> {
+    let recording = recording_of(rt.alloc(), &[*txn])?;
+    comes_to(rt, config, recording.as_slice(), report, journals)
+}
+
+// A transaction whose client leaves comes to what is stated of it, with so many journals.
+fn leaves<R: Abort + AllocGlobal + Threads + Wait + Sync>(
+    rt: &R,
+    config: &[u8],
+    stated: &Stated<'_>,
+    txn: &Stalling<'_>,
+    journals: usize,
+) -> Result<(), Fail> {
+    let report = left_report(rt.alloc(), &[*stated], txn.leave.unwrap_or(0))?;
+    is_reported(rt, config, txn, report.as_slice(), journals)
 }
 
 // A transaction under a line, and what is stated of it where its client stays.
@@ -172,7 +199,7 @@ fn under<'a>(config: &'a [u8], client: &'a [u8], origin: &'a [u8], stated: State
 
 // A transaction under each stock line, whose body ends whole, is cut, or breaks its framing, and answers of
 // the proxy's own.
-fn rows() -> [Row<'static>; 14] {
+fn rows() -> [Row<'static>; 15] {
     [
         under(LESS, GET, ABC, in_chunks(b"<abc")),
         under(APPEND, USUAL, PAGE, paged(b"<p>hello</p>\n<hr>")),
@@ -181,6 +208,7 @@ fn rows() -> [Row<'static>; 14] {
         under(b"map.so a A", GET, ABC, in_chunks(b"Abc")),
         under(b"drop.so b", GET, ABC, in_chunks(b"ac")),
         under(b"delay.so 20", GET, ABC, in_chunks(b"abc")),
+        under(b"limit.so 2", GET, CUT, in_chunks(b"ab")),
         under(b"", GET, ABC, passed(SIZED, StatedEnd::Whole(b"abc"))),
         under(LESS, USUAL, PAGE, paged(b"<<p>hello</p>\n")),
         under(LESS, GET, CUT, passed(CHUNKED, StatedEnd::Cut)),
@@ -240,12 +268,7 @@ end\n";
 fn fronts_of_a_recording_with_stalls(rt: HostRuntime) -> Result<(), Fail> {
     for length in 0..LEFT_AT_10.len() {
         let (front, _) = LEFT_AT_10.split_at(length);
-        let line = format!(in rt.alloc(); "tsx: recording offset {length}\n")?;
-        for words in [REPLAY, ON_8] {
-            let remains = replayed(&rt, rt.alloc(), words, LESS, front)?;
-            let found = compare(&remains, &stopped(4, line.as_bytes()));
-            assert_eq!(rt; found, Comparison::AsStated, "offset {length}");
-        }
+        refused(&rt, front, length)?;
     }
     Ok(())
 }
@@ -260,8 +283,7 @@ fn sides_that_stall(rt: HostRuntime) -> Result<(), Fail> {
             stalled(row.txn, 32_768, 1_000),
             stalled(row.txn, 1, 2),
         ] {
-            let recording = recording_of(rt.alloc(), &[txn])?;
-            comes_to(&rt, row.config, recording.as_slice(), report.as_slice(), 1)?;
+            is_reported(&rt, row.config, &txn, report.as_slice(), 1)?;
         }
     }
     Ok(())
@@ -273,11 +295,9 @@ fn sides_that_stall(rt: HostRuntime) -> Result<(), Fail> {
 fn clients_that_leave(rt: HostRuntime) -> Result<(), Fail> {
     for row in &rows() {
         for most in [1, 17, 51, 52, 53, 85, 86, 90, 67_108_864] {
-            let report = left_report(rt.alloc(), &[row.stated], most)?;
-            for txn in [row.txn, stalled(row.txn, 1, 1)] {
-                let recording = recording_of(rt.alloc(), &[left(txn, most)])?;
-                comes_to(&rt, row.config, recording.as_slice(), report.as_slice(), 1)?;
-            }
+            leaves(&rt, row.config, &row.stated, &left(row.txn, most), 1)?;
+            let stalling = stalled(row.txn, 1, 1);
+            leaves(&rt, row.config, &row.stated, &left(stalling, most), 1)?;
         }
     }
     Ok(())
@@ -288,9 +308,7 @@ fn clients_that_leave(rt: HostRuntime) -> Result<(), Fail> {
 fn a_client_leaves_at_each_byte(rt: HostRuntime) -> Result<(), Fail> {
     let stated = in_chunks(b"<abc");
     for most in 1..=100 {
-        let report = left_report(rt.alloc(), &[stated], most)?;
-        let recording = recording_of(rt.alloc(), &[left(at_once(GET, ABC), most)])?;
-        comes_to(&rt, LESS, recording.as_slice(), report.as_slice(), 1)?;
+        leaves(&rt, LESS, &stated, &left(at_once(GET, ABC), most), 1)?;
     }
     Ok(())
 }
@@ -299,17 +317,10 @@ fn a_client_leaves_at_each_byte(rt: HostRuntime) -> Result<(), Fail> {
 #[test]
 fn clients_that_leave_where_no_origin_is_asked(rt: HostRuntime) -> Result<(), Fail> {
     let config = b"denylist.so a";
-    let report = left_report(rt.alloc(), &[unasked(&FORBIDDEN)], 20)?;
-    let recording = recording_of(rt.alloc(), &[left(at_once(GET, ABC), 20)])?;
-    comes_to(&rt, config, recording.as_slice(), report.as_slice(), 2)?;
-    let silent = Stated {
-        request: b"",
-        head: b"",
-        came: StatedEnd::Whole(b""),
-    };
-    let report = left_report(rt.alloc(), &[silent], 20)?;
-    let recording = recording_of(rt.alloc(), &[left(at_once(b"", ABC), 20)])?;
-    comes_to(&rt, config, recording.as_slice(), report.as_slice(), 2)
+    let denied = left(at_once(GET, ABC), 20);
+    leaves(&rt, config, &unasked(&FORBIDDEN), &denied, 2)?;
+    let silent = left(at_once(b"", ABC), 20);
+    leaves(&rt, config, &NOTHING, &silent, 2)
 }
 
 // Of many transactions each leaves or stays as it is recorded, on many threads.

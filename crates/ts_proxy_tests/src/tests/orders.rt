@@ -5,11 +5,12 @@ use crate::comparison::{Comparison, Wanted, compare, stopped};
 use crate::recording::{at_once, recording_of};
 use crate::report::report_of;
 use crate::stated::{ABC, APPEND, GET, LESS, in_chunks};
+use std::alloc::Global;
 use std::process::Abort;
 use std::sync::Wait;
 use std::test::Fail;
 use std::thread::Threads;
-use ts_link::{MemShelf, OpenGate};
+use ts_link::{MemShelf, NoMemory, OpenGate};
 
 // A command comes to no report over this shelf, but to this status, with this line.
 fn ends<R: Abort + AllocGlobal + Threads + Wait + Sync>(
@@ -76,6 +77,29 @@ fn reads_that_fail(rt: HostRuntime) -> Result<(), Fail> {
     Ok(())
 }
 
+// How many bytes are written before the write of this number fails, if all is as stated and they are a
+// front of the report.
+fn written_before<R: Threads + Wait + Sync>(
+    rt: &R,
+    alloc: Global,
+    recording: &[u8],
+    call: u64,
+    report: &[u8],
+) -> Result<Option<u64>, NoMemory> {
+    let shelf = shelf_of(alloc, LESS, recording)?;
+    let out = failing_sink(alloc, 10, call)?;
+    let left = left_by(rt, alloc, REPLAY, shelf, out, &OpenGate::make())?;
+    let front = left.out.written();
+    let wanted = Wanted {
+        out: front,
+        ..stopped(6, b"tsx: cannot write\n")
+    };
+    if compare(&left, &wanted) != Comparison::AsStated || !report.starts_with(front) {
+        return Ok(None);
+    }
+    Ok(Some(front.len() as u64))
+}
+
 // What is written before a write that fails is a front of the report.
 #[test]
 fn writes_that_fail(rt: HostRuntime) -> Result<(), Fail> {
@@ -83,21 +107,8 @@ fn writes_that_fail(rt: HostRuntime) -> Result<(), Fail> {
     let recording = recording_of(alloc, &[at_once(GET, ABC)])?;
     let report = report_of(alloc, &[in_chunks(b"<abc")])?;
     for call in 1..22 {
-        let shelf = shelf_of(alloc, LESS, recording.as_slice())?;
-        let out = failing_sink(alloc, 10, call)?;
-        let left = left_by(&rt, alloc, REPLAY, shelf, out, &OpenGate::make())?;
-        let front = left.out.written();
-        let wanted = Wanted {
-            out: front,
-            ..stopped(6, b"tsx: cannot write\n")
-        };
-        assert_eq!(rt;
-            compare(&left, &wanted),
-            Comparison::AsStated,
-            "call {call}"
-        );
-        assert_eq!(rt; front.len() as u64 + 10, 10 * call, "call {call}");
-        assert!(rt; report.as_slice().starts_with(front), "call {call}");
+        let found = written_before(&rt, alloc, recording.as_slice(), call, report.as_slice());
+        assert_eq!(rt; found, Ok(Some(10 * call - 10)), "call {call}");
     }
     Ok(())
 }

@@ -1,16 +1,17 @@
 //! Recordings that are refused, with the place behind the front that is right.
 
-use crate::command::{ON_8, REPLAY, replayed};
-use crate::comparison::{Comparison, compare, stopped};
+use crate::command::{ON_8, REPLAY};
+use crate::comparison::{Comparison, stopped};
 use crate::recording::{at_once, recording_of};
+use crate::row::compared;
 use crate::stated::{ABC, GET, LESS};
 use std::process::Abort;
 use std::sync::Wait;
 use std::test::Fail;
 use std::thread::Threads;
 
-// A recording is refused at this offset, with nothing written and no journal.
-fn refused<R: Abort + AllocGlobal + Threads + Wait + Sync>(
+/// A recording is refused at this offset, with nothing written and no journal.
+pub fn refused<R: Abort + AllocGlobal + Threads + Wait + Sync>(
     rt: &R,
     text: &[u8],
     offset: usize,
@@ -18,12 +19,8 @@ fn refused<R: Abort + AllocGlobal + Threads + Wait + Sync>(
     let line = format!(in rt.alloc(); "tsx: recording offset {offset}\n")?;
     let wanted = stopped(4, line.as_bytes());
     for words in [REPLAY, ON_8] {
-        let left = replayed(rt, rt.alloc(), words, LESS, text)?;
-        assert_eq!(rt;
-            compare(&left, &wanted),
-            Comparison::AsStated,
-            "offset {offset}"
-        );
+        let found = compared(rt, rt.alloc(), words, LESS, text, &wanted)?;
+        assert_eq!(rt; found, Comparison::AsStated, "offset {offset}");
     }
     Ok(())
 }

@@ -14,7 +14,7 @@ use std::process::Abort;
 use std::sync::Wait;
 use std::test::Fail;
 use std::thread::Threads;
-use ts_link::{NoMemory, OpenGate};
+use ts_link::{MemShelf, NoMemory, OpenGate};
 
 // The most transactions of a recording.
 const MOST_TXNS: usize = 4_000;
@@ -70,8 +70,8 @@ fn most_transactions(rt: HostRuntime) -> Result<(), Fail> {
     Ok(())
 }
 
-// Of as many transactions as there may be, none of which waits for its sides, 4 threads miss none: an event of
-// a group that a thread had missed would be handled 10 ms later.
+// Of as many transactions as there may be, none of which waits for its sides, 4 threads miss none: an
+// event of a group that a thread had missed would be handled 10 ms later.
 #[test]
 fn no_transaction_is_missed(rt: HostRuntime) -> Result<(), Fail> {
     let alloc = rt.alloc();
@@ -84,46 +84,57 @@ fn no_transaction_is_missed(rt: HostRuntime) -> Result<(), Fail> {
     Ok(())
 }
 
+// As many lines as there may be, which pass a body on.
+const NULLS: &[u8] = b"null_transform.so\nnull_transform.so\nnull_transform.so\nnull_transform.so\n\
+null_transform.so\nnull_transform.so\nnull_transform.so\nnull_transform.so\n\
+null_transform.so\nnull_transform.so\nnull_transform.so\nnull_transform.so\n\
+null_transform.so\nnull_transform.so\nnull_transform.so\nnull_transform.so\n";
+
+// Whether a body comes through them as it is, where the origin gives it in pieces of so many bytes.
+fn pass_on<R: Threads + Wait + Sync>(
+    rt: &R,
+    alloc: Global,
+    body: &[u8],
+    piece: usize,
+) -> Result<Comparison, NoMemory> {
+    let response = response_of(alloc, body)?;
+    let exchange = in_pieces(at_once(GET, response.as_slice()), piece);
+    let stated = in_chunks(body);
+    check_with(rt, alloc, ON_4, NULLS, 0, &[exchange], &[stated])
+}
+
 // A body of 1 MiB, in pieces as large as they may be and in smaller ones, through as many lines as there may
 // be.
 #[test]
 fn a_large_body(rt: HostRuntime) -> Result<(), Fail> {
-    let alloc = rt.alloc();
-    let body = letters(alloc, MIB)?;
-    let response = response_of(alloc, body.as_slice())?;
-    let mut config = Vec::new(alloc);
-    for _ in 0..16 {
-        config.extend_from_slice(b"null_transform.so\n")?;
-    }
+    let body = letters(rt.alloc(), MIB)?;
     for piece in [MOST_PIECE, 1_000] {
-        let exchange = in_pieces(at_once(GET, response.as_slice()), piece);
-        let stated = in_chunks(body.as_slice());
-        let found = check_with(
-            &rt,
-            alloc,
-            ON_4,
-            config.as_slice(),
-            0,
-            &[exchange],
-            &[stated],
-        )?;
-        assert_eq!(rt; found, Comparison::AsStated, "pieces of {piece}");
+        let found = pass_on(&rt, rt.alloc(), body.as_slice(), piece);
+        assert_eq!(rt; found, Ok(Comparison::AsStated), "pieces of {piece}");
     }
     Ok(())
 }
 
-// A report goes out whenever 64 KiB of it are there. The lines on three of these bodies come to more: where the
-// next write fails, they stand on out, and no other.
-#[test]
-fn a_report_in_two_writes(rt: HostRuntime) -> Result<(), Fail> {
-    let alloc = rt.alloc();
-    let body = letters(alloc, 30_000)?;
-    let response = response_of(alloc, body.as_slice())?;
+// What is left of five transactions with this body, where the second write into out fails.
+fn left_of_five<R: Threads + Wait + Sync>(
+    rt: &R,
+    alloc: Global,
+    body: &[u8],
+) -> Result<Remains, NoMemory> {
+    let response = response_of(alloc, body)?;
     let recording = recording_of(alloc, &[at_once(GET, response.as_slice()); 5])?;
-    let three = report_of(alloc, &[in_chunks(body.as_slice()); 3])?;
     let shelf = shelf_of(alloc, b"", recording.as_slice())?;
     let out = failing_sink(alloc, usize::MAX, 2)?;
-    let left = left_by(&rt, alloc, ON_4, shelf, out, &OpenGate::make())?;
+    left_by(rt, alloc, ON_4, shelf, out, &OpenGate::make())
+}
+
+// A report goes out whenever 64 KiB of it are there. The lines on three of these bodies come to more:
+// where the next write fails, they stand on out, and no other.
+#[test]
+fn a_report_in_two_writes(rt: HostRuntime) -> Result<(), Fail> {
+    let body = letters(rt.alloc(), 30_000)?;
+    let three = report_of(rt.alloc(), &[in_chunks(body.as_slice()); 3])?;
+    let left = left_of_five(&rt, rt.alloc(), body.as_slice())?;
     let front = left.out.written();
     let wanted = Wanted {
         out: front,
@@ -142,6 +153,22 @@ const EQUAL_BODY: usize = 1_048_557;
 
 const LAST_BODY: usize = 1_016_794;
 
+// The recording of these responses: equal ones, and the last.
+fn recording_with(alloc: Global, response: &[u8], last: &[u8]) -> Result<Vec<u8>, NoMemory> {
+    let mut exchanges = vec![in alloc; at_once(GET, response); EQUAL]?;
+    exchanges.push(at_once(GET, last))?;
+    recording_of(alloc, exchanges.as_slice())
+}
+
+// The shelf with the recording of responses with these bodies, and how long that is.
+fn filled_shelf(alloc: Global, body: &[u8], last: &[u8]) -> Result<(MemShelf, usize), NoMemory> {
+    let response = response_of(alloc, body)?;
+    let last = response_of(alloc, last)?;
+    let recording = recording_with(alloc, response.as_slice(), last.as_slice())?;
+    let shelf = shelf_of(alloc, b"null_transform.so", recording.as_slice())?;
+    Ok((shelf, recording.len()))
+}
+
 // What replaying responses with these bodies leaves on 4 threads, where the recording is as long as it may
 // be, or one byte longer.
 fn filled<R: Abort + Threads + Wait + Sync>(
@@ -149,15 +176,17 @@ fn filled<R: Abort + Threads + Wait + Sync>(
     alloc: Global,
     body: &[u8],
     last: &[u8],
-) -> Result<Remains, Fail> {
-    let (response, last_response) = (response_of(alloc, body)?, response_of(alloc, last)?);
-    let mut exchanges = vec![in alloc; at_once(GET, response.as_slice()); EQUAL]?;
-    exchanges.push(at_once(GET, last_response.as_slice()))?;
-    let recording = recording_of(alloc, exchanges.as_slice())?;
-    let shelf = shelf_of(alloc, b"null_transform.so", recording.as_slice())?;
-    assert_eq!(rt; recording.len() + LAST_BODY, MOST_RECORDING + last.len());
-    drop(recording);
-    Ok(left_by(rt, alloc, ON_4, shelf, wide_sink(alloc), &OpenGate::make())?)
+) -> Result<Remains, NoMemory> {
+    let (shelf, length) = filled_shelf(alloc, body, last)?;
+    assert_eq!(rt; length + LAST_BODY, MOST_RECORDING + last.len());
+    left_by(rt, alloc, ON_4, shelf, wide_sink(alloc), &OpenGate::make())
+}
+
+// The report on them.
+fn filled_report(alloc: Global, body: &[u8], last: &[u8]) -> Result<Vec<u8>, NoMemory> {
+    let mut all = vec![in alloc; in_chunks(body); EQUAL]?;
+    all.push(in_chunks(last))?;
+    report_of(alloc, all.as_slice())
 }
 
 // As many bytes as there may be.
@@ -167,9 +196,7 @@ fn most_bytes(rt: HostRuntime) -> Result<(), Fail> {
     let body = letters(alloc, EQUAL_BODY)?;
     let last = letters(alloc, LAST_BODY)?;
     let left = filled(&rt, alloc, body.as_slice(), last.as_slice())?;
-    let mut all = vec![in alloc; in_chunks(body.as_slice()); EQUAL]?;
-    all.push(in_chunks(last.as_slice()))?;
-    let report = report_of(alloc, all.as_slice())?;
+    let report = filled_report(alloc, body.as_slice(), last.as_slice())?;
     let wanted = done(report.as_slice(), EQUAL + 1);
     assert_eq!(rt; compare(&left, &wanted), Comparison::AsStated);
     Ok(())

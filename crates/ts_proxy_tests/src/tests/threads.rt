@@ -2,19 +2,22 @@
 //! place, two handlers beside each other.
 
 use crate::command::{
-    ON_1, ON_2, ON_4, ON_8, ON_64, REPLAY, left_by, replayed, shelf_of, wide_sink,
+    ON_1, ON_2, ON_4, ON_8, ON_64, REPLAY, Remains, left_by, replayed, shelf_of, wide_sink,
 };
 use crate::comparison::{Comparison, compare, done};
 use crate::recording::{Exchange, at_once, in_pieces, recording_of};
 use crate::report::{Stated, StatedEnd, report_of};
 use crate::row::check_with;
-use crate::seats::first_seat;
+use crate::seats::are_of_two_seats;
 use crate::stated::{
     ABC, BAD_CHUNKS, BAD_GATEWAY, BAD_REQUEST, CHUNKED, CUT, GET, HOSTLESS, LESS, NOTHING, PAGE,
     USUAL, in_chunks, paged, passed, unasked,
 };
+use std::alloc::Global;
+use std::sync::Wait;
 use std::test::Fail;
-use ts_link::MeetGate;
+use std::thread::Threads;
+use ts_link::{MeetGate, NoMemory};
 
 // A byte before a body, and then a pause at each event.
 const DELAYED: &[u8] = b"prepend.so <\ndelay.so 20";
@@ -73,27 +76,49 @@ fn fifty_runs(rt: HostRuntime) -> Result<(), Fail> {
     Ok(())
 }
 
+// What two equal transactions leave on two threads, whose handlers pass this gate.
+fn two_left_by<R: Threads + Wait + Sync>(
+    rt: &R,
+    alloc: Global,
+    gate: &MeetGate,
+) -> Result<Remains, NoMemory> {
+    let recording = recording_of(alloc, &[at_once(GET, ABC), at_once(GET, ABC)])?;
+    let shelf = shelf_of(alloc, LESS, recording.as_slice())?;
+    left_by(rt, alloc, ON_2, shelf, wide_sink(alloc), gate)
+}
+
+// Whether they left what they are to leave.
+fn compare_two(alloc: Global, left: &Remains) -> Result<Comparison, NoMemory> {
+    let report = report_of(alloc, &[in_chunks(b"<abc"), in_chunks(b"<abc")])?;
+    Ok(compare(left, &done(report.as_slice(), 2)))
+}
+
 // Two equal transactions, each of which waits in its first handler for the other: the first events of the two
 // were handled under different seats.
 #[test]
 fn two_transactions_run_beside_each_other(rt: HostRuntime) -> Result<(), Fail> {
-    let alloc = rt.alloc();
-    let recording = recording_of(alloc, &[at_once(GET, ABC), at_once(GET, ABC)])?;
-    let report = report_of(alloc, &[in_chunks(b"<abc"), in_chunks(b"<abc")])?;
-    let shelf = shelf_of(alloc, LESS, recording.as_slice())?;
     let gate = MeetGate::make(20_000_000);
-    let left = left_by(&rt, alloc, ON_2, shelf, wide_sink(alloc), &gate)?;
+    let left = two_left_by(&rt, rt.alloc(), &gate)?;
     assert!(rt; gate.met());
-    let wanted = done(report.as_slice(), 2);
-    assert_eq!(rt; compare(&left, &wanted), Comparison::AsStated);
-    let [one, other] = left.journals.as_slice() else {
-        return Err("there are two journals")?;
-    };
-    let first = first_seat(one.entries());
-    let second = first_seat(other.entries());
-    assert!(rt; first.is_some() && second.is_some());
-    assert!(rt; first != second);
+    let found = compare_two(rt.alloc(), &left);
+    assert_eq!(rt; found, Ok(Comparison::AsStated));
+    assert!(rt; are_of_two_seats(left.journals.as_slice()));
     Ok(())
+}
+
+// Whether a recording leaves three journals, the second of which has handled many events, and the others few.
+fn stands_between<R: Threads + Wait + Sync>(
+    rt: &R,
+    alloc: Global,
+    words: &[&str],
+    recording: &[u8],
+) -> Result<bool, NoMemory> {
+    let left = replayed(rt, alloc, words, DELAYED, recording)?;
+    let [before, between, behind] = left.journals.as_slice() else {
+        return Ok(false);
+    };
+    let few = before.counts().handled < 20 && behind.counts().handled < 20;
+    Ok(few && between.counts().handled > 200)
 }
 
 // The journal of a transaction that passes many pieces on stands between those of two that do next to
@@ -104,13 +129,8 @@ fn journals_stand_in_the_order_of_their_transactions(rt: HostRuntime) -> Result<
     let exchanges = [at_once(b"", b""), drips, at_once(b"", b"")];
     let recording = recording_of(rt.alloc(), &exchanges)?;
     for words in [ON_1, ON_4] {
-        let left = replayed(&rt, rt.alloc(), words, DELAYED, recording.as_slice())?;
-        let [before, between, behind] = left.journals.as_slice() else {
-            return Err("there are three journals")?;
-        };
-        assert!(rt; before.counts().handled < 20, "at {words:?}");
-        assert!(rt; between.counts().handled > 200, "at {words:?}");
-        assert!(rt; behind.counts().handled < 20, "at {words:?}");
+        let found = stands_between(&rt, rt.alloc(), words, recording.as_slice());
+        assert_eq!(rt; found, Ok(true), "at {words:?}");
     }
     Ok(())
 }

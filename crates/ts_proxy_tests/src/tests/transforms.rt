@@ -19,12 +19,13 @@ fn shelf_with(alloc: Global, config: &[u8], name: &str, text: &[u8]) -> Result<M
     Ok(shelf)
 }
 
-// A shelf with a configuration, a body, and three files that hold their own names.
+// A shelf with a configuration, a body, and four files that hold their own names.
 fn shelf_of(alloc: Global, config: &[u8], body: &[u8]) -> Result<MemShelf, NoMemory> {
     let mut shelf = shelf_with(alloc, config, "b", body)?;
     shelf.add("1", b"1")?;
     shelf.add("2", b"2")?;
     shelf.add(">", b">")?;
+    shelf.add("Z", b"Z")?;
     Ok(shelf)
 }
 
@@ -51,7 +52,7 @@ fn leaves<R: Abort + AllocGlobal + Threads + Wait + Sync>(
 // nothing of it.
 #[test]
 fn bodies(rt: HostRuntime) -> Result<(), Fail> {
-    let rows: [(&[u8], &[u8], &[u8]); 9] = [
+    let rows: [(&[u8], &[u8], &[u8]); 14] = [
         (b"null_transform.so\nappend_transform.so 1", b"", b"1"),
         (
             b"append_transform.so 1\nappend_transform.so 2\n",
@@ -89,6 +90,15 @@ fn bodies(rt: HostRuntime) -> Result<(), Fail> {
             b"a",
             b"<A",
         ),
+        (b"limit.so 2", b"abc", b"ab"),
+        (b"limit.so 2\nappend_transform.so Z", b"abc", b"abZ"),
+        (b"append_transform.so Z\nlimit.so 4", b"abc", b"abcZ"),
+        (b"append_transform.so Z\nlimit.so 3", b"abc", b"abc"),
+        (
+            b"bnull_transform.so\nlimit.so 0\nprepend.so <",
+            b"abc",
+            b"<",
+        ),
     ];
     for (config, body, out) in rows {
         leaves(&rt, shelf_of(rt.alloc(), config, body)?, &done(out, 1))?;
@@ -104,7 +114,7 @@ fn faulty_lines(rt: HostRuntime) -> Result<(), Fail> {
             b"null_transform.so\nfoo.so\n",
             b"tsx: configuration line 2: plugin\n",
         ),
-        (b"limit.so 5", b"tsx: configuration line 1: plugin\n"),
+        (b"limit.so", b"tsx: configuration line 1: arguments\n"),
         (
             b"null_transform.so\nmap.so ab c",
             b"tsx: configuration line 2: arguments\n",

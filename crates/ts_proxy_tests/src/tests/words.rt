@@ -1,8 +1,9 @@
 //! The words of `replay`: with and without a number of threads, and words that are of no command.
 
-use crate::command::{ON_1, ON_64, REPLAY, USAGE, replayed};
-use crate::comparison::{Comparison, Wanted, compare, done, stopped};
+use crate::command::{ON_1, ON_64, REPLAY, USAGE};
+use crate::comparison::{Comparison, Wanted, done, stopped};
 use crate::recording::recording_of;
+use crate::row::compared;
 use std::process::Abort;
 use std::sync::Wait;
 use std::test::Fail;
@@ -15,12 +16,8 @@ fn come_to<R: Abort + AllocGlobal + Threads + Wait + Sync>(
     wanted: &Wanted<'_>,
 ) -> Result<(), Fail> {
     let recording = recording_of(rt.alloc(), &[])?;
-    let left = replayed(rt, rt.alloc(), words, b"", recording.as_slice())?;
-    assert_eq!(rt;
-        compare(&left, wanted),
-        Comparison::AsStated,
-        "at {words:?}"
-    );
+    let found = compared(rt, rt.alloc(), words, b"", recording.as_slice(), wanted)?;
+    assert_eq!(rt; found, Comparison::AsStated, "at {words:?}");
     Ok(())
 }
 

@@ -1,13 +1,13 @@
-//! What single clients get: ones whose origin is not reached, ones that stall, and ones that leave at each
-//! byte.
+//! What single clients get: ones whose origin is not reached, ones that stall, ones that get the front of a
+//! page, and ones that leave at each byte.
 
-use crate::row::{all_come, check};
+use crate::row::{Row, all_come, check};
 use std::alloc::Global;
 use std::test::Fail;
 use ts_hooks::TxnEnd;
 use ts_link::NoMemory;
 use ts_serve_tests::links::{Side, Stalling, staying};
-use ts_serve_tests::stated::{ABC_TAKEN, GET};
+use ts_serve_tests::stated::{ABC, ABC_TAKEN, CHUNKED, GET};
 use ts_serve_tests::visit::{Visit, page, unreached};
 
 // A dial that fails gives its client the proxy's own answer.
@@ -71,6 +71,40 @@ fn leaving<'a>(at: usize) -> Visit<'a> {
         end: TxnEnd::ClientFault,
         ..page()
     }
+}
+
+// The page without its last letter.
+const CUT: &[u8] = b"HTTP/1.1 200 OK\r\nContent-Length: 3\r\n\r\nab";
+
+// A client that gets the first two letters of the page that this origin gives.
+fn first_letters<'a>(origin: Stalling<'a>) -> Visit<'a> {
+    Visit {
+        origin: Some(Side::Stalling(origin)),
+        taken: CHUNKED,
+        chunks: Some(b"ab"),
+        ..page()
+    }
+}
+
+// A line lets two letters of a page pass. Its client gets them whole, whether the origin gives the third one,
+// ends before it, or makes its reader wait for it without an end.
+#[test]
+fn clients_get_the_first_letters_of_a_page(rt: HostRuntime) -> Result<(), Fail> {
+    let stalling = Stalling {
+        stalls_at: CUT.len(),
+        stall: u32::MAX,
+        ..staying(ABC)
+    };
+    let visits = [
+        first_letters(staying(ABC)),
+        first_letters(staying(CUT)),
+        first_letters(stalling),
+    ];
+    let row = Row {
+        config: b"limit.so 2\n",
+        ..all_come(&visits)
+    };
+    check(&rt, &row)
 }
 
 // Clients that leave at each byte, and one that leaves behind the last.

@@ -13,12 +13,12 @@ use std::sync::Wait;
 use std::test::Fail;
 use std::thread::Threads;
 use ts_hooks::TxnEnd;
-use ts_link::{MemShelf, MemSink, NoMemory, OpenGate};
+use ts_link::{MemLink, MemShelf, MemSink, NoMemory, OpenGate};
 use ts_serve_tests::links::{Counting, Side, steady};
 use ts_serve_tests::net::net_of;
 use ts_serve_tests::stated::{ABC, BAD_GATEWAY, CHUNKED, GET, SIZED};
 use ts_serve_tests::visit::{Visit, page, unreached};
-use ts_txn::MemNet;
+use ts_txn::{MemNet, Retired};
 
 // The report where its origin gives no whole head.
 const ANSWERED: &[u8] = b"tsx-report 1\ntxn 1\nrequest 60\nGET / HTTP/1.1\r\nhost: a\r\n\
@@ -136,6 +136,29 @@ fn through_a_line<'a>(visits: &'a [Visit<'a>]) -> Row<'a> {
     }
 }
 
+// How often the client and the origin of the only transaction waited, if there is no other.
+fn waits_of(retired: &[Retired<MemLink, MemLink>]) -> (u64, u64) {
+    let [one] = retired else {
+        return (u64::MAX, u64::MAX);
+    };
+    match &one.parts.origin {
+        Some(link) => (one.parts.client.waits(), link.waits()),
+        None => (one.parts.client.waits(), 0),
+    }
+}
+
+// What comes of a net of one client, and how often that and its origin waited.
+fn come_of_waits<R: Threads + Wait + Sync>(
+    rt: &R,
+    alloc: Global,
+    threads: &str,
+    row: &Row<'_>,
+) -> Result<(Outcome, u64, u64), NoMemory> {
+    let left = served(rt, alloc, threads, row, &OpenGate::make())?;
+    let (client, origin) = waits_of(left.net.retired());
+    Ok((compare(alloc, row, &left)?, client, origin))
+}
+
 // The client of a page and its origin come out as it is stated, having waited so often each.
 fn waits<R: Abort + AllocGlobal + Threads + Wait + Sync>(
     rt: &R,
@@ -146,15 +169,8 @@ fn waits<R: Abort + AllocGlobal + Threads + Wait + Sync>(
     let visits = [visit];
     let row = all_come(&visits);
     for threads in THREADS {
-        let left = served(rt, rt.alloc(), threads, &row, &OpenGate::make())?;
-        assert_eq!(rt; compare(rt.alloc(), &row, &left), Ok(Outcome::AsStated));
-        let [one] = left.net.retired() else {
-            return Err("one was handed over")?;
-        };
-        assert_eq!(rt; one.parts.client.waits(), client);
-        if let Some(link) = &one.parts.origin {
-            assert_eq!(rt; link.waits(), origin);
-        }
+        let found = come_of_waits(rt, rt.alloc(), threads, &row);
+        assert_eq!(rt; found, Ok((Outcome::AsStated, client, origin)));
     }
     Ok(())
 }
