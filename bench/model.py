@@ -24,6 +24,7 @@ MOST_TAKEN = 64 << 20
 MOST_TRANSACTIONS = 4000
 MOST_TRANSFORMS, MOST_PLUGINS, MOST_SITES = 16, 64, 64
 MOST_DELAY = 60000
+MOST_LIMIT = 9223372036854775807
 MOST_HEAD, MOST_FIELDS = 16384, 64
 MOST_CHUNK_LINE = 4096
 MOST_BODY = 9223372036854775807
@@ -119,8 +120,18 @@ def file_of(word):
     return arguments_unless(word != b"", word)
 
 
+def number_of(word, most):
+    """A number from 0 to that, in plain decimal."""
+    arguments_unless(re.fullmatch(rb"0|[1-9][0-9]{0,18}", word), None)
+    return arguments_unless(int(word) <= most, int(word))
+
+
 def pause_of(word):
-    return arguments_unless(re.fullmatch(rb"0|[1-9][0-9]*", word) and int(word) <= MOST_DELAY, word)
+    return number_of(word, MOST_DELAY)
+
+
+def limit_of(word):
+    return number_of(word, MOST_LIMIT)
 
 
 TRANSFORMS = {
@@ -131,6 +142,7 @@ TRANSFORMS = {
     b"map.so": [byte_of, byte_of],
     b"drop.so": [byte_of],
     b"delay.so": [pause_of],
+    b"limit.so": [limit_of],
 }
 
 
@@ -529,18 +541,41 @@ def acting_lines(head, config):
     return [line for line in config.transforms if is_html or line[0] != "append_transform.so"]
 
 
+def made_of(body, line, texts):
+    """What a line makes of a body; `texts` are those of the files of append lines."""
+    name, *values = line
+    if name == "append_transform.so":
+        return body + texts[values[0]]
+    if name == "prepend.so":
+        return values[0] + body
+    if name == "map.so":
+        return body.replace(bytes(values[:1]), bytes(values[1:]))
+    if name == "drop.so":
+        return body.replace(bytes(values), b"")
+    return body[: values[0]] if name == "limit.so" else body
+
+
 def transformed(body, lines, texts):
-    """What the lines make of a body; `texts` are those of the files of append lines."""
-    for name, *values in lines:
-        if name == "append_transform.so":
-            body += texts[values[0]]
-        elif name == "prepend.so":
-            body = values[0] + body
-        elif name == "map.so":
-            body = body.replace(bytes(values[:1]), bytes(values[1:]))
-        elif name == "drop.so":
-            body = body.replace(bytes(values), b"")
+    """What the lines make of a body, one after the other."""
+    for line in lines:
+        body = made_of(body, line, texts)
     return body
+
+
+def written_in_time(body, line, texts):
+    """What a line has written of a body of which so much came, and not its end."""
+    if line[0] == "bnull_transform.so" or line[0] == "prepend.so" and not body:
+        return b""
+    return body if line[0] == "append_transform.so" else made_of(body, line, texts)
+
+
+def finish_early(body, lines, texts):
+    """Whether the lines need no more of a body of which so much came: one of them is a limit that is reached."""
+    for line in lines:
+        if line[0] == "limit.so" and len(body) >= line[1]:
+            return True
+        body = written_in_time(body, line, texts)
+    return False
 
 
 def framing_line(head, framing, request, acts):
@@ -595,7 +630,11 @@ def outcome(client, origin, config, texts):
     body, end = body_of(origin[at:], framing)
     lines = acting_lines(response, config)
     head = client_head(response, config, framing_line(response, framing, request, bool(lines)))
-    return asked, end, head, transformed(body, [] if framing == "nothing" else lines, texts)
+    if framing == "nothing":
+        return asked, end, head, body
+    if finish_early(body, lines, texts):
+        end = "whole"
+    return asked, end, head, transformed(body, lines, texts)
 
 
 def block(number, asked, end, head, body):
