@@ -165,11 +165,11 @@ const IN_TIME: [(&[u8], &[u8], [usize; 6]); 9] = [
 ];
 
 // Whether a body of HTML that is cut after so many bytes comes through these lines as this.
-fn check_in_time(
+fn check_in_time<'a>(
     alloc: Global,
-    lines: &[u8],
+    lines: &'a [u8],
     came: usize,
-    body: &[u8],
+    body: &'a [u8],
 ) -> Result<Finding, Refusal> {
     let row = Row {
         origin: Some(front_of(HTML, came.saturating_add(HTML_FRONT as usize))),
@@ -245,11 +245,13 @@ fn body_at(
     place: usize,
     row: &(&[u8], &[u8], &[u8], &[u8], &[u8]),
 ) -> Result<Vec<u8>, Refusal> {
-    let (_, before, behind, of_front, of_whole) = row;
-    let made = if place == 0 { of_front } else { of_whole };
-    let passed = between(alloc, place, before, made, behind)?;
+    let passed = if place == 0 {
+        between(alloc, place, row.1, row.3, row.2)?
+    } else {
+        between(alloc, place, row.1, row.4, row.2)?
+    };
     let kept = front_of(passed.as_slice(), 3);
-    between(alloc, BESIDE.saturating_sub(place), before, kept, behind)
+    between(alloc, BESIDE.saturating_sub(place), row.1, kept, row.2)
 }
 
 // Whether a limit at a place among the lines of a row makes of the body what it is to make.
