@@ -178,7 +178,8 @@ fn filled<R: Abort + Threads + Wait + Sync>(
     last: &[u8],
 ) -> Result<Remains, NoMemory> {
     let (shelf, length) = filled_shelf(alloc, body, last)?;
-    assert_eq!(rt; length + LAST_BODY, MOST_RECORDING + last.len());
+    let full = MOST_RECORDING.saturating_add(last.len());
+    assert_eq!(rt; length.saturating_add(LAST_BODY), full);
     left_by(rt, alloc, ON_4, shelf, wide_sink(alloc), &OpenGate::make())
 }
 
