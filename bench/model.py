@@ -23,6 +23,8 @@ MOST_STALL, MOST_STALLED = 1000, 100000
 MOST_TAKEN = 64 << 20
 MOST_TRANSACTIONS = 4000
 MOST_TRANSFORMS, MOST_PLUGINS, MOST_SITES = 16, 64, 64
+MOST_REQUESTS, MOST_INTERCEPTS, MOST_TAPS = 16, 64, 1
+MOST_FILLED, MOST_TAPPED = 262144, 2147483647
 MOST_DELAY = 60000
 MOST_LIMIT = 9223372036854775807
 MOST_HEAD, MOST_FIELDS = 16384, 64
@@ -166,30 +168,71 @@ def header_rule(words):
     return (words[0].decode(), words[1].decode(), rule_name(words[2]), value)
 
 
-PLUGINS = {b"denylist.so": deny_list, b"header.so": header_rule}
+def session_rule(words):
+    return ("session", *header_rule(words))
+
+
+def transform_line(name, words):
+    """The name of a transform and its values."""
+    readers = arguments_unless(name in TRANSFORMS, TRANSFORMS.get(name))
+    arguments_unless(len(words) == len(readers), None)
+    return (name.decode(), *(reader(word) for reader, word in zip(readers, words)))
+
+
+def request_line(words):
+    """The transform of a line of request bodies, which delays nothing."""
+    arguments_unless(words and words[0] != b"delay.so", None)
+    return transform_line(words[0], words[1:])
+
+
+def intercept_line(words):
+    """The site of an intercept, its kind and what that says more."""
+    arguments_unless(len(words) >= 2 and words[0] != b"", None)
+    site, kind, *rest = words
+    if kind == b"fill" and len(rest) == 1:
+        return (site, "fill", number_of(rest[0], MOST_FILLED))
+    if kind == b"file" and len(rest) == 1:
+        return (site, "file", file_of(rest[0]))
+    return arguments_unless(kind == b"echo" and not rest, (site, "echo"))
+
+
+def tap_line(words):
+    arguments_unless(len(words) == 1, None)
+    tapped = number_of(words[0], MOST_TAPPED)
+    return arguments_unless(tapped > 0, tapped)
+
+
+PLUGINS = {b"denylist.so": deny_list, b"header.so": header_rule, b"session.so": session_rule}
 
 
 class Config:
-    """The transform lines, each a name and its values, and the lines of hook plugins, in their order."""
+    """The lines of each kind in their order: transforms, each a name and its values, hook plugins, request bodies,
+    intercepts and taps. `idle` is the first line on which nobody acts yet, None where there is none."""
 
     def __init__(self):
-        self.transforms, self.plugins = [], []
+        self.transforms, self.plugins, self.requests, self.intercepts, self.taps = [], [], [], [], []
+        self.idle = None
 
     def add(self, line):
+        """Whether somebody acts on the line."""
         check_text(line)
         words = words_of(line)
         if not words:
-            return
+            return True
         name, *rest = words
         if name in TRANSFORMS:
-            readers = TRANSFORMS[name]
-            arguments_unless(len(rest) == len(readers), None)
-            values = [reader(word) for reader, word in zip(readers, rest)]
-            put(self.transforms, (name.decode(), *values), MOST_TRANSFORMS)
+            put(self.transforms, transform_line(name, rest), MOST_TRANSFORMS)
         elif name in PLUGINS:
             put(self.plugins, PLUGINS[name](rest), MOST_PLUGINS)
+        elif name == b"request.so":
+            put(self.requests, request_line(rest), MOST_REQUESTS)
+        elif name == b"intercept.so":
+            put(self.intercepts, intercept_line(rest), MOST_INTERCEPTS)
+        elif name == b"tap.so":
+            put(self.taps, tap_line(rest), MOST_TAPS)
         else:
             raise BrokenRule("plugin")
+        return name in TRANSFORMS or name in (b"denylist.so", b"header.so")
 
 
 def put(lines, line, most):
@@ -202,9 +245,11 @@ def read_config(text):
     config = Config()
     for number, line in enumerate(config_lines(text), 1):
         try:
-            config.add(line)
+            is_idle = not config.add(line)
         except BrokenRule as kind:
             raise Fault(3, b"configuration line %d: %b" % (number, str(kind).encode())) from None
+        if is_idle and config.idle is None:
+            config.idle = number
     return config
 
 
@@ -730,6 +775,8 @@ def read_file(name, most):
 def read_setup(name):
     """The configuration of a file, and the texts of the files that its append lines name."""
     config = read_config(read_file(name, MOST_CONFIGURATION))
+    if config.idle is not None:
+        raise Fault(3, b"configuration line %d: arguments" % config.idle)
     files = [line[1] for line in config.transforms if line[0] == "append_transform.so"]
     return config, {file: read_file(file, MOST_TEXT) for file in files}
 

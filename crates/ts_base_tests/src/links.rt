@@ -4,7 +4,7 @@ use std::process::Abort;
 use std::thread;
 use ts_link::{
     Clock, Gate, Got, Link, MeetGate, MemLink, MemShelf, MemSink, Octets, OpenGate, Piece, Put,
-    Shelf, ShelfFault, Sink, StepClock, Wrote,
+    Shelf, ShelfFault, Sink, Sourced, StepClock, Wrote,
 };
 
 #[test]

@@ -13,7 +13,7 @@ use Rattle.ts_config.specs.declared.fields.Side.{Side}
 use Rattle.ts_config.specs.declared.fields.Rule.{Rule}
 use Rattle.ts_config.specs.declared.fields.Rule.TheVariants.{Set, Add, Remove}
 use Rattle.ts_config.specs.declared.fields.PluginLine.{PluginLine}
-use Rattle.ts_config.specs.declared.fields.PluginLine.TheVariants.{Deny, Header}
+use Rattle.ts_config.specs.declared.fields.PluginLine.TheVariants.{Deny, Header, SessionHeader}
 use Rattle.ts_config.specs.Bytes.{most_text}
 use Rattle.ts_config.specs.Rules.{is_kept_name, HasPlainRule, IsPlainRule, IsRuleName, IsRuleValue}
 use Rattle.ts_config.proofs.Asked.{chosen}
@@ -111,14 +111,19 @@ rule_plain sent fs (Add name value) (named, valued) change =
     added sent fs field change (plain_field field named valued) (free_name name named)
 rule_plain sent fs (Remove name) named change = removed sent fs name change (free_name name named)
 
+-- a rule that is applied where it is of the side
+on_side_plain : (of_side : Bool) (sent fs : List Field) (rule : Rule) → IsPlainRule rule → IsChangeOf sent fs
+    → IsChangeOf sent (cond of_side (apply_rule rule fs) fs)
+on_side_plain true sent fs rule plain change = rule_plain sent fs rule plain change
+on_side_plain false sent fs rule plain change = change
+
 line_plain : (side : Side) (sent fs : List Field) (line : PluginLine) → HasPlainRule line
     → IsChangeOf sent fs → IsChangeOf sent (after_line side fs line)
 line_plain side sent fs (Deny sites) plain change = change
-line_plain side sent fs (Header other rule) plain change = by_side (is_side side other)
-  where
-    by_side : (b : Bool) → IsChangeOf sent (cond b (apply_rule rule fs) fs)
-    by_side true = rule_plain sent fs rule plain change
-    by_side false = change
+line_plain side sent fs (Header other rule) plain change =
+    on_side_plain (is_side side other) sent fs rule plain change
+line_plain side sent fs (SessionHeader other rule) plain change =
+    on_side_plain (is_side side other) sent fs rule plain change
 
 -- all rules of a side, one after the other
 pub ruled_plain : (side : Side) (lines : List PluginLine) (sent fs : List Field) → All HasPlainRule lines

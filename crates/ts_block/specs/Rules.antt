@@ -9,7 +9,7 @@ use Rattle.ts_config.specs.declared.fields.Side.TheVariants as S
 use Rattle.ts_config.specs.declared.fields.Rule.{Rule}
 use Rattle.ts_config.specs.declared.fields.Rule.TheVariants.{Set, Add, Remove}
 use Rattle.ts_config.specs.declared.fields.PluginLine.{PluginLine}
-use Rattle.ts_config.specs.declared.fields.PluginLine.TheVariants.{Deny, Header}
+use Rattle.ts_config.specs.declared.fields.PluginLine.TheVariants.{Deny, Header, SessionHeader}
 
 -- the fields but those of the name
 abbrev pub without_name : List ℕ → List Field → List Field
@@ -27,9 +27,15 @@ is_side S.Request S.Request = true
 is_side S.Response S.Response = true
 is_side _ _ = false
 
--- the fields of one side's head after a line: only a rule of that side changes them
+-- the fields of one side's head after a rule, which changes them where it is of that side
+abbrev pub after_rule : Side → List Field → Side → Rule → List Field
+after_rule side fields ruled rule = if is_side side ruled then apply_rule rule fields else fields
+
+-- the fields of one side's head after a line: only a rule of that side changes them, be it of all transactions
+-- or of the session
 abbrev pub after_line : Side → List Field → PluginLine → List Field
-after_line side fields (Header ruled rule) = if is_side side ruled then apply_rule rule fields else fields
+after_line side fields (Header ruled rule) = after_rule side fields ruled rule
+after_line side fields (SessionHeader ruled rule) = after_rule side fields ruled rule
 after_line side fields (Deny sites) = fields
 
 -- the fields after all rules of one side, in the order of their lines
@@ -43,6 +49,7 @@ is_site host sites = list_any (λ site. str_eq_ignore_ascii_case site host) site
 abbrev pub denies : List ℕ → PluginLine → Bool
 denies host (Deny sites) = is_site host sites
 denies host (Header side rule) = false
+denies host (SessionHeader side rule) = false
 
 -- some deny line denies the host
 abbrev pub is_denied : List PluginLine → List ℕ → Bool

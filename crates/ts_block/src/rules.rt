@@ -1,7 +1,7 @@
 //! What the hook plugin lines of a configuration do: deny lists refuse hosts, header rules change fields.
 ghost use Rattle.std.specs.Prelude.{◌≡◌, IfOk};
 ghost use Rattle.std.specs.Str.{str_eq_ignore_ascii_case};
-ghost use Rattle.ts_block.specs.Rules.{apply_rule, after_line, ruled, is_side, is_site, denies, is_denied};
+ghost use Rattle.ts_block.specs.Rules.{apply_rule, after_rule, after_line, ruled, is_side, is_site, denies, is_denied};
 
 use ts_config::{PluginLine, Rule, Side, Sites};
 use ts_link::NoMemory;
@@ -51,18 +51,24 @@ fn is_side(a: Side, b: Side) -> bool
     }
 }
 
+// The fields of one side's head after a rule, which changes them where it is of that side.
+fn after_rule(side: Side, fields: Fields, ruled: Side, rule: &Rule) -> Result<Fields, NoMemory>
+    ensures { IfOk result (λ after. after ≡ after_rule side fields ruled rule.now) }
+{
+    if is_side(side, ruled) {
+        apply_rule(fields, rule)
+    } else {
+        Ok(fields)
+    }
+}
+
 // The fields of one side's head after a line: only a header rule of that side changes them.
 fn after_line(side: Side, fields: Fields, line: &PluginLine) -> Result<Fields, NoMemory>
     ensures { IfOk result (λ after. after ≡ after_line side fields line.now) }
 {
     match line {
-        PluginLine::Header { side: ruled, rule } => {
-            if is_side(side, *ruled) {
-                apply_rule(fields, rule)
-            } else {
-                Ok(fields)
-            }
-        }
+        PluginLine::Header { side: ruled, rule } => after_rule(side, fields, *ruled, rule),
+        PluginLine::SessionHeader { side: ruled, rule } => after_rule(side, fields, *ruled, rule),
         PluginLine::Deny { .. } => Ok(fields),
     }
 }
@@ -102,7 +108,7 @@ fn denies(line: &PluginLine, host: &[u8]) -> bool
 {
     match line {
         PluginLine::Deny { sites } => is_site(sites, host),
-        PluginLine::Header { .. } => false,
+        PluginLine::Header { .. } | PluginLine::SessionHeader { .. } => false,
     }
 }
 

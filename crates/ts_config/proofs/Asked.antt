@@ -1,18 +1,18 @@
 -- A line that a name and the words behind it ask for.
-use Rattle.std.proofs.Common.{◌≡◌, ℕ, ◌<◌, ◌≤◌, List, [], ◌∷◌, length, Bool, true, false, cond, Option, Some, None, Ok, Err, refl, ap, sym, ◌∙◌, subst, arith}
+use Rattle.std.proofs.Common.{◌≡◌, ℕ, ◌<◌, ◌≤◌, List, [], ◌∷◌, length, Bool, true, false, cond, Option, Some, None, Ok, Err, ◌⊎◌, inl, inr, refl, ap, sym, ◌∙◌, subst, arith}
 use Rattle.std.specs.Prelude.{nat_le}
 use Rattle.std.specs.Option.{option_map, option_and_then}
-use Rattle.ts_config.specs.declared.fields.PluginLine.{PluginLine}
 use Rattle.ts_config.specs.declared.setup.TransformLine.{TransformLine}
 use Rattle.ts_config.specs.declared.setup.TransformLine.TheVariants as t
 use Rattle.ts_config.specs.declared.setup.ConfigKind.TheVariants as k
-use Rattle.ts_config.specs.declared.setup.LineMeaning.TheVariants.{Empty, Transform, Plugin}
+use Rattle.ts_config.specs.declared.setup.LineMeaning.{LineMeaning}
+use Rattle.ts_config.specs.declared.setup.LineMeaning.TheVariants.{Empty}
 use Rattle.ts_config.specs.declared.table.PluginName.{PluginName}
 use Rattle.ts_config.specs.declared.table.PluginName.TheVariants as n
 use Rattle.ts_config.specs.Bytes.{most_limit}
 use Rattle.ts_config.specs.Numerals.{byte_of, number_of}
 use Rattle.ts_config.specs.Setup.{untexted}
-use Rattle.ts_config.specs.Table.{name_of, transform_of, plugin_of, fitting, named_entry, line_entry}
+use Rattle.ts_config.specs.Table.{name_of, transform_of, unhurried_of, asked_of, fitting, named_entry, line_entry}
 use Rattle.std.proofs.lemmas.Bool.Decides.{nat_tests}
 
 -- what the words behind the name are
@@ -74,68 +74,26 @@ asked n.Limit (most ∷ []) line is =
     subst (λ l. Asks l n.Limit (most ∷ [])) whole (refl, (most, refl, first))
 asked name words line is = absurd (let wrong : None ≡ Some line = is in cc)
 
--- a line that means a transform has a name, and the words that ask for it
-pub entry_asked : (words : List (List ℕ)) (line : TransformLine)
-    → Ok (Transform line) ≡ line_entry words
-    → (name : PluginName) × (first : List ℕ) × (others : List (List ℕ)) × (words ≡ first ∷ others)
-    × (name_of first ≡ Some name) × (transform_of name others ≡ Some line)
-entry_asked [] line is =
-    absurd (let wrong : Ok (Transform line) ≡ Ok Empty = is in let inner : Transform line ≡ Empty = cc in cc)
-entry_asked (word ∷ others) line is = by_name (name_of word) refl is
+-- a line that means something is asked for by a name and the words behind it
+pub entry_asked : (words : List (List ℕ)) (e : LineMeaning) → Ok e ≡ line_entry words
+    → (e ≡ Empty) ⊎ ((name : PluginName) × (first : List ℕ) × (others : List (List ℕ))
+    × (words ≡ first ∷ others) × (asked_of name others ≡ Some e))
+entry_asked [] e is = inl (let same : Ok e ≡ Ok Empty = is in cc)
+entry_asked (word ∷ others) e is = by_name (name_of word) is
   where
-    by_line : (name : PluginName) → name_of word ≡ Some name → (o : Option TransformLine)
-        → (p : Option PluginLine) → transform_of name others ≡ o → Ok (Transform line) ≡ fitting o p
-        → (name : PluginName) × (first : List ℕ) × (rest : List (List ℕ)) × (word ∷ others ≡ first ∷ rest)
-        × (name_of first ≡ Some name) × (transform_of name rest ≡ Some line)
-    by_line name found None None none wrong =
-        absurd (let e : Ok (Transform line) ≡ Err k.Arguments = wrong in cc)
-    by_line name found None (Some p) none wrong =
-        absurd (let e : Ok (Transform line) ≡ Ok (Plugin p) = wrong in
-        let inner : Transform line ≡ Plugin p = cc in cc)
-    by_line name found (Some l) p some same =
-        let inner : Transform line ≡ Transform l = let e : Ok (Transform line) ≡ Ok (Transform l) = same in
-        cc in
-        let equal : l ≡ line = cc in
-        (name, word, others, refl, found, some ∙ ap (λ x. Some x) equal)
+    by_line : (name : PluginName) (o : Option LineMeaning) → asked_of name others ≡ o → Ok e ≡ fitting o
+        → (e ≡ Empty) ⊎ ((name : PluginName) × (first : List ℕ) × (rest : List (List ℕ))
+        × (word ∷ others ≡ first ∷ rest) × (asked_of name rest ≡ Some e))
+    by_line name None none wrong = absurd (let unfit : Ok e ≡ Err k.Arguments = wrong in cc)
+    by_line name (Some found) some same =
+        let equal : found ≡ e = let both : Ok e ≡ Ok found = same in cc in
+        inr (name, word, others, refl, some ∙ ap (λ x. Some x) equal)
 
-    by_name : (o : Option PluginName) → name_of word ≡ o
-        → Ok (Transform line) ≡ named_entry o others
-        → (name : PluginName) × (first : List ℕ) × (rest : List (List ℕ)) × (word ∷ others ≡ first ∷ rest)
-        × (name_of first ≡ Some name) × (transform_of name rest ≡ Some line)
-    by_name None none wrong = absurd (let e : Ok (Transform line) ≡ Err k.Plugin = wrong in cc)
-    by_name (Some name) some same =
-        by_line name some (transform_of name others) (plugin_of name others) refl same
-
--- and so one that means a hook plugin
-pub entry_hooked : (words : List (List ℕ)) (line : PluginLine)
-    → Ok (Plugin line) ≡ line_entry words
-    → (name : PluginName) × (first : List ℕ) × (others : List (List ℕ)) × (words ≡ first ∷ others)
-    × (name_of first ≡ Some name) × (plugin_of name others ≡ Some line)
-entry_hooked [] line is =
-    absurd (let wrong : Ok (Plugin line) ≡ Ok Empty = is in let inner : Plugin line ≡ Empty = cc in cc)
-entry_hooked (word ∷ others) line is = by_name (name_of word) refl is
-  where
-    by_line : (name : PluginName) → name_of word ≡ Some name → (o : Option TransformLine)
-        → (p : Option PluginLine) → plugin_of name others ≡ p → Ok (Plugin line) ≡ fitting o p
-        → (name : PluginName) × (first : List ℕ) × (rest : List (List ℕ)) × (word ∷ others ≡ first ∷ rest)
-        × (name_of first ≡ Some name) × (plugin_of name rest ≡ Some line)
-    by_line name found None None none wrong =
-        absurd (let e : Ok (Plugin line) ≡ Err k.Arguments = wrong in cc)
-    by_line name found (Some l) p some wrong =
-        absurd (let e : Ok (Plugin line) ≡ Ok (Transform l) = wrong in
-        let inner : Plugin line ≡ Transform l = cc in cc)
-    by_line name found None (Some p) some same =
-        let inner : Plugin line ≡ Plugin p = let e : Ok (Plugin line) ≡ Ok (Plugin p) = same in cc in
-        let equal : p ≡ line = cc in
-        (name, word, others, refl, found, some ∙ ap (λ x. Some x) equal)
-
-    by_name : (o : Option PluginName) → name_of word ≡ o
-        → Ok (Plugin line) ≡ named_entry o others
-        → (name : PluginName) × (first : List ℕ) × (rest : List (List ℕ)) × (word ∷ others ≡ first ∷ rest)
-        × (name_of first ≡ Some name) × (plugin_of name rest ≡ Some line)
-    by_name None none wrong = absurd (let e : Ok (Plugin line) ≡ Err k.Plugin = wrong in cc)
-    by_name (Some name) some same =
-        by_line name some (transform_of name others) (plugin_of name others) refl same
+    by_name : (o : Option PluginName) → Ok e ≡ named_entry o others
+        → (e ≡ Empty) ⊎ ((name : PluginName) × (first : List ℕ) × (rest : List (List ℕ))
+        × (word ∷ others ≡ first ∷ rest) × (asked_of name rest ≡ Some e))
+    by_name None wrong = absurd (let unknown : Ok e ≡ Err k.Plugin = wrong in cc)
+    by_name (Some name) same = by_line name (asked_of name others) refl same
 
 -- the text of a file is empty in it
 pub untexted-asked : (line : TransformLine) (name : PluginName) (words : List (List ℕ)) → Asks line name words
@@ -148,3 +106,23 @@ untexted-asked (t.Map a b) name words asks = refl
 untexted-asked (t.Drop b) name words asks = refl
 untexted-asked (t.Delay m) name words asks = refl
 untexted-asked (t.Limit m) name words asks = refl
+
+-- a transform of request bodies is no delay
+abbrev pub is_delay : TransformLine → Bool
+is_delay (t.Delay m) = true
+is_delay line = false
+
+abbrev names_delay : PluginName → Bool
+names_delay n.Delay = true
+names_delay name = false
+
+no_delay : (line : TransformLine) (name : PluginName) (words : List (List ℕ)) → Asks line name words
+    → names_delay name ≡ false → is_delay line ≡ false
+no_delay (t.Delay m) name words (named, given) other = ap names_delay (sym named) ∙ other
+no_delay line name words asks other = refl
+
+pub unhurried : (name : PluginName) (words : List (List ℕ)) (line : TransformLine)
+    → unhurried_of name words ≡ Some line
+    → (transform_of name words ≡ Some line) × (is_delay line ≡ false)
+unhurried n.Delay words line is = absurd (let wrong : None ≡ Some line = is in cc)
+unhurried name words line is = (is, no_delay line name words (asked name words line is) refl)

@@ -10,17 +10,18 @@ use Rattle.http_header.specs.FieldValue.{FieldValue, plain_value}
 use Rattle.http_header.specs.Token.{is_token_byte, is_value_byte, lowercase, token_test}
 use Rattle.http_header.proofs.TokenLemmas.{IsFieldName-from_test, IsHeaderName-lowercase, token_byte_range}
 use Rattle.ts_config.specs.declared.fields.PluginLine.{PluginLine}
-use Rattle.ts_config.specs.declared.fields.PluginLine.TheVariants.{Deny, Header}
+use Rattle.ts_config.specs.declared.fields.PluginLine.TheVariants.{Deny, Header, SessionHeader}
 use Rattle.ts_config.specs.declared.fields.Rule.{Rule}
 use Rattle.ts_config.specs.declared.fields.Rule.TheVariants.{Set, Add, Remove}
 use Rattle.ts_config.specs.declared.fields.Side.{Side}
 use Rattle.ts_config.specs.declared.fields.Side.TheVariants as S
+use Rattle.ts_config.specs.declared.setup.LineMeaning.TheVariants.{Plugin}
 use Rattle.ts_config.specs.declared.table.PluginName.{PluginName}
 use Rattle.ts_config.specs.declared.table.PluginName.TheVariants as n
 use Rattle.ts_config.specs.Printing.{plugin_name}
 use Rattle.ts_config.specs.Reading.{is_text_byte}
-use Rattle.ts_config.specs.Rules.{are_sites, side_word, side_of, is_kept_name, rule_name, rule_value, putting, put_rule, remove_rule, rule_of, IsRuleName, IsRuleValue, IsPlainRule, HasPlainRule, rule_words, plugin_words}
-use Rattle.ts_config.specs.Table.{plugin_of, transform_of}
+use Rattle.ts_config.specs.Rules.{are_sites, side_word, side_of, is_kept_name, rule_name, rule_value, putting, put_rule, remove_rule, rule_of, sided_rule, IsRuleName, IsRuleValue, IsPlainRule, HasPlainRule, rule_words, plugin_words}
+use Rattle.ts_config.specs.Table.{asked_of, plugin_of}
 use Rattle.ts_config.specs.Words.{IsQuotable}
 use Rattle.ts_config.proofs.Asked.{mapped, chained, chosen}
 use Rattle.ts_config.proofs.FineWords.{IsFine}
@@ -115,6 +116,7 @@ IsPrintableRule (Remove name) = IsRuleName name
 abbrev pub IsPrintablePlugin : PluginLine → Type 0
 IsPrintablePlugin (Deny sites) = (are_sites sites ≡ true) × AllByRecursion IsFine sites
 IsPrintablePlugin (Header side rule) = IsPrintableRule rule
+IsPrintablePlugin (SessionHeader side rule) = IsPrintableRule rule
 
 put_printable : (action word text : List ℕ) (rule : Rule) → IsFine text
     → put_rule action word text ≡ Some rule → IsPrintableRule rule
@@ -158,18 +160,27 @@ rule_printable [] rule fine is = absurd (let wrong : None ≡ Some rule = is in 
 rule_printable (a ∷ []) rule fine is = absurd (let wrong : None ≡ Some rule = is in cc)
 rule_printable (a ∷ b ∷ c ∷ d ∷ more) rule fine is = absurd (let wrong : None ≡ Some rule = is in cc)
 
+sided_printable : (words : List (List ℕ)) (both : Side × Rule) → AllByRecursion IsFine words
+    → sided_rule words ≡ Some both → IsPrintableRule both.1
+sided_printable [] both fine is = absurd (let wrong : None ≡ Some both = is in cc)
+sided_printable (word ∷ words) both fine is =
+    let (side, first, inner) =
+    chained (λ s. option_map (λ r. (s, r)) (rule_of words)) (side_of word) both is in
+    let (rule, second, same) = mapped (λ r. (side, r)) (rule_of words) both inner in
+    subst (λ (b : Side × Rule). IsPrintableRule b.1) same (rule_printable words rule fine.1 second)
+
 -- a line that was read can be printed
 pub hooked_printable : (name : PluginName) (words : List (List ℕ)) (line : PluginLine)
     → AllByRecursion IsFine words → plugin_of name words ≡ Some line → IsPrintablePlugin line
 hooked_printable n.Deny words line fine is =
     let (are, same) = chosen (are_sites words) (Deny words) line is in
     subst IsPrintablePlugin same (are, fine)
-hooked_printable n.Header [] line fine is = absurd (let wrong : None ≡ Some line = is in cc)
-hooked_printable n.Header (word ∷ words) line fine is =
-    let (side, first, inner) =
-    chained (λ s. option_map (λ r. Header s r) (rule_of words)) (side_of word) line is in
-    let (rule, second, same) = mapped (λ r. Header side r) (rule_of words) line inner in
-    subst IsPrintablePlugin same (rule_printable words rule fine.1 second)
+hooked_printable n.Header words line fine is =
+    let (both, found, same) = mapped (λ b. Header b.0 b.1) (sided_rule words) line is in
+    subst IsPrintablePlugin same (sided_printable words both fine found)
+hooked_printable n.SessionHeader words line fine is =
+    let (both, found, same) = mapped (λ b. SessionHeader b.0 b.1) (sided_rule words) line is in
+    subst IsPrintablePlugin same (sided_printable words both fine found)
 hooked_printable name words line fine is = absurd (let wrong : None ≡ Some line = is in cc)
 
 -- it has a plain rule alone
@@ -181,6 +192,7 @@ rule_plain (Remove name) is = is
 pub hooked_plain : (line : PluginLine) → IsPrintablePlugin line → HasPlainRule line
 hooked_plain (Deny sites) is = tt
 hooked_plain (Header side rule) is = rule_plain rule is
+hooked_plain (SessionHeader side rule) is = rule_plain rule is
 
 -- its words can be written
 side_fine : (side : Side) → IsFine (side_word side)
@@ -209,6 +221,7 @@ rule_fine (Remove name) is = (remove_fine, (name_fine name is, tt))
 pub hooked_fine : (line : PluginLine) → IsPrintablePlugin line → AllByRecursion IsFine (plugin_words line)
 hooked_fine (Deny sites) is = is.1
 hooked_fine (Header side rule) is = (side_fine side, rule_fine rule is)
+hooked_fine (SessionHeader side rule) is = (side_fine side, rule_fine rule is)
 
 -- and ask for the line
 side_again : (side : Side) → side_of (side_word side) ≡ Some side
@@ -226,15 +239,19 @@ rule_again (Add name value) is =
     ∙ ap (λ o. option_and_then (λ v. putting (codes "add") name v) o) is.1.0
 rule_again (Remove name) is = ap (option_map (λ n. Remove n)) is
 
-pub hooked_again : (line : PluginLine) → IsPrintablePlugin line
-    → plugin_of (plugin_name line) (plugin_words line) ≡ Some line
-hooked_again (Deny sites) is = ap (λ t. cond t (Some (Deny sites)) None) is.0
-hooked_again (Header side rule) is =
-    ap (λ o. option_and_then (λ s. option_map (λ r. Header s r) (rule_of (rule_words rule))) o)
+sided_again : (side : Side) (rule : Rule) → IsPrintableRule rule
+    → sided_rule (side_word side ∷ rule_words rule) ≡ Some (side, rule)
+sided_again side rule is =
+    ap (λ o. option_and_then (λ s. option_map (λ r. (s, r)) (rule_of (rule_words rule))) o)
     (side_again side)
-    ∙ ap (option_map (λ r. Header side r)) (rule_again rule is)
+    ∙ ap (option_map (λ r. (side, r))) (rule_again rule is)
 
--- they ask for no transform
-pub no_transform : (line : PluginLine) (words : List (List ℕ)) → transform_of (plugin_name line) words ≡ None
-no_transform (Deny sites) words = refl
-no_transform (Header side rule) words = refl
+pub hooked_again : (line : PluginLine) → IsPrintablePlugin line
+    → asked_of (plugin_name line) (plugin_words line) ≡ Some (Plugin line)
+hooked_again (Deny sites) is = ap (λ t. option_map Plugin (cond t (Some (Deny sites)) None)) is.0
+hooked_again (Header side rule) is =
+    ap (λ o. option_map Plugin (option_map (λ (b : Side × Rule). Header b.0 b.1) o))
+    (sided_again side rule is)
+hooked_again (SessionHeader side rule) is =
+    ap (λ o. option_map Plugin (option_map (λ (b : Side × Rule). SessionHeader b.0 b.1) o))
+    (sided_again side rule is)

@@ -5,10 +5,12 @@ pub mod Digits
 pub mod Early
 pub mod Filled
 pub mod FineWords
+pub mod Fresh
 pub mod Fronts
 pub mod Hooked
 pub mod LineCuts
 pub mod LinesSoFar
+pub mod Listed
 pub mod Meanings
 pub mod OneReading
 pub mod Printable

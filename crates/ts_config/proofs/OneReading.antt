@@ -1,17 +1,19 @@
 -- Lines have one reading, or one first fault.
 use Rattle.std.proofs.Common.{◌≡◌, ℕ, List, [], ◌∷◌, ◌++◌, length, Bool, true, false, Result, Ok, Err, inl, inr, ◌⊎◌, refl, ap, sym, ◌∙◌, subst, arith}
-use Rattle.std.specs.Prelude.{MatchBool}
-use Rattle.std.specs.List.{AllZip}
+use Rattle.std.specs.Prelude.{IsSome, MatchBool}
+use Rattle.std.specs.List.{All, AllByRecursion, AllZip}
+use Rattle.std.proofs.lemmas.List.Elements.{All-from_recursion}
 use Rattle.ts_lists.proofs.Fronts.{two_cuts}
 use Rattle.ts_config.specs.declared.setup.ConfigKind.{ConfigKind}
 use Rattle.ts_config.specs.declared.setup.ConfigKind.TheVariants as k
+use Rattle.ts_config.specs.declared.setup.FilePlace.{FilePlace}
 use Rattle.ts_config.specs.declared.setup.LineMeaning.{LineMeaning}
 use Rattle.ts_config.specs.Lines.{config_lines}
-use Rattle.ts_config.specs.Setup.{ConfigLines}
+use Rattle.ts_config.specs.Setup.{ConfigLines, file_at}
 use Rattle.ts_config.specs.Table.{line_entry}
-use Rattle.ts_config.specs.Reading.{is_text, Means, MeansByWords, lines_in, has_room, AreFew, AreRead, Breaks, IsFault, IsConfiguration}
+use Rattle.ts_config.specs.Reading.{is_text, Means, MeansByWords, lines_in, files_behind, has_room, AreFew, AreFiles, AreRead, Breaks, IsFault, IsConfiguration}
 use Rattle.ts_config.proofs.Scan.{one_words}
-use Rattle.ts_config.proofs.LinesSoFar.{room_before}
+use Rattle.ts_config.proofs.LinesSoFar.{places_right, room_before}
 
 by_words_once : (line : List ℕ) (a b : Result LineMeaning ConfigKind) → MeansByWords line a
     → MeansByWords line b
@@ -56,6 +58,24 @@ pub one_reading : (bytes : List ℕ) (ts us : ConfigLines) → IsConfiguration b
 one_reading bytes ts us a b =
     a.lines_are ∙ ap lines_in (each_once (config_lines bytes) a.es b.es a.read.each b.read.each)
     ∙ sym b.lines_are
+
+-- and the files of its lines in one order
+pub one_order : (bytes : List ℕ) (ps qs : List FilePlace) → AreFiles bytes ps → AreFiles bytes qs → ps ≡ qs
+one_order bytes ps qs a b =
+    a.places_are
+    ∙ ap (files_behind []) (each_once (config_lines bytes) a.es b.es a.read.each b.read.each)
+    ∙ sym b.places_are
+
+-- each place in the list of files of what was read is that of a line with a file
+pub places_read : (bytes : List ℕ) (lines : ConfigLines) (places : List FilePlace) → IsConfiguration bytes lines
+    → AreFiles bytes places → All (λ place. IsSome (file_at lines place)) places
+places_read bytes lines places read files =
+    let same = each_once (config_lines bytes) files.es read.es files.read.each read.read.each in
+    let right = subst (λ es. AllByRecursion (λ place. IsSome (file_at (lines_in es) place)) places) same
+    (subst (AllByRecursion (λ place. IsSome (file_at (lines_in files.es) place))) (sym files.places_are)
+    (places_right [] files.es)) in
+    All-from_recursion (λ place. IsSome (file_at lines place)) places
+    (subst (λ ls. AllByRecursion (λ place. IsSome (file_at ls place)) places) (sym read.lines_are) right)
 
 -- the entries of lines, cut at a line
 cut_entries : (before : List (List ℕ)) (line : List ℕ) (after : List (List ℕ)) (es : List LineMeaning)

@@ -1,33 +1,36 @@
 -- What a line can say.
-use Rattle.std.proofs.Common.{◌≡◌, ℕ, ◌+◌, ◌*◌, ◌<◌, ◌≤◌, List, [], ◌∷◌, length, map, Bool, true, false, cond, ◌&&◌, Some, None, Ok, ◌⊎◌, inl, inr, ap, sym, subst, arith, length-append}
-use Rattle.std.specs.Prelude.{◌==◌, nat_le, ⊤}
+use Rattle.std.proofs.Common.{◌≡◌, ℕ, zero, suc, ◌+◌, ◌*◌, ◌<◌, ◌≤◌, List, [], ◌∷◌, length, map, Bool, true, false, cond, ◌&&◌, Option, Some, None, ◌⊎◌, inl, inr, ap, sym, subst, arith, length-append}
+use Rattle.std.specs.Prelude.{◌==◌, nat_le, slice_get, IfSome, ⊤}
 use Rattle.std.specs.Option.{option_map, option_and_then}
 use Rattle.std.proofs.lemmas.List.Elements.{All-from_recursion}
-use Rattle.std.specs.List.{All, AllByRecursion, AllZip}
+use Rattle.std.specs.List.{All, AllByRecursion}
 use Rattle.std.specs.Str.{IsUtf8, encode_utf8_all, all_ascii_digits}
 use Rattle.std.specs.Str.Parse.{digits_value}
 use Rattle.std.specs.Char.{encode_utf8, len_utf8}
 use Rattle.std.proofs.lemmas.Str.{length-encode, byte_from_char}
 use Rattle.std.proofs.lemmas.Bool.{cases_lt}
 use Rattle.std.proofs.lemmas.Bool.Decides.{nat_tests}
+use Rattle.ts_lists.proofs.Elements.{each_weaker}
 use Rattle.ts_config.specs.declared.fields.PluginLine.{PluginLine}
+use Rattle.ts_config.specs.declared.setup.FilePlace.{FilePlace}
+use Rattle.ts_config.specs.declared.setup.FilePlace.TheVariants as p
+use Rattle.ts_config.specs.declared.setup.InterceptKind.{InterceptKind}
+use Rattle.ts_config.specs.declared.setup.InterceptKind.TheVariants as i
+use Rattle.ts_config.specs.declared.setup.InterceptLine.{InterceptLine}
 use Rattle.ts_config.specs.declared.setup.TransformLine.{TransformLine}
 use Rattle.ts_config.specs.declared.setup.TransformLine.TheVariants as t
 use Rattle.ts_config.specs.declared.setup.LineMeaning.{LineMeaning}
-use Rattle.ts_config.specs.declared.setup.LineMeaning.TheVariants.{Empty, Transform, Plugin}
+use Rattle.ts_config.specs.declared.setup.LineMeaning.TheVariants.{Empty, Transform, Request, Intercept, Plugin, Tap}
 use Rattle.ts_config.specs.declared.table.PluginName.{PluginName}
-use Rattle.ts_config.specs.Bytes.{most_limit}
-use Rattle.ts_config.specs.Lines.{config_lines}
+use Rattle.ts_config.specs.Bytes.{most_fill, most_limit, most_tap}
 use Rattle.ts_config.specs.Numerals.{hex_value, byte_of, number_of, has_no_leading_zero}
-use Rattle.ts_config.specs.Setup.{ConfigLines, untexted, HasFileName}
-use Rattle.ts_config.specs.Reading.{Means, transforms_in, plugins_in, ComeFromText}
-use Rattle.ts_config.specs.Rules.{HasPlainRule}
+use Rattle.ts_config.specs.Setup.{ConfigLines, file_at, file_of, file_served, kind_with_text, untexted, untexted_intercept, untexted_lines}
+use Rattle.ts_config.specs.Rules.{HasPlainRule, is_site}
 use Rattle.ts_config.proofs.Again.{hex_small}
-use Rattle.ts_config.proofs.Asked.{Asks, asked, entry_asked, entry_hooked, mapped, chained, chosen}
-use Rattle.ts_config.proofs.FineWords.{IsFine, words_fine}
-use Rattle.ts_config.proofs.Hooked.{IsPrintablePlugin, hooked_plain, hooked_printable}
-use Rattle.ts_config.proofs.Meanings.{in_words}
-use Rattle.ts_config.proofs.TextParts.{text-from, both}
+use Rattle.ts_config.proofs.Asked.{Asks, is_delay, mapped, chained, chosen}
+use Rattle.ts_config.proofs.FineWords.{IsFine}
+use Rattle.ts_config.proofs.Hooked.{IsPrintablePlugin, hooked_plain}
+use Rattle.ts_config.proofs.TextParts.{both}
 
 abbrev pub IsPrintable : TransformLine → Type 0
 IsPrintable t.Null = ⊤
@@ -71,7 +74,7 @@ byte_small (z ∷ x ∷ high ∷ low ∷ []) b utf8 is = by_prefix (z == 48 && x
     by_prefix false given = absurd (let wrong : None ≡ Some b = given in cc)
 byte_small (a ∷ c ∷ d ∷ e ∷ f ∷ more) b utf8 is = absurd (let wrong : None ≡ Some b = is in cc)
 
-number_small : (most : ℕ) (word : List ℕ) (n : ℕ) → number_of most word ≡ Some n → n ≤ most
+pub number_small : (most : ℕ) (word : List ℕ) (n : ℕ) → number_of most word ≡ Some n → n ≤ most
 number_small most word n is =
     let parts = chosen ((has_no_leading_zero word && all_ascii_digits word) && nat_le
     (digits_value 10 word) most) (digits_value 10 word) n is in
@@ -80,7 +83,7 @@ number_small most word n is =
     let within : digits_value 10 word ≤ most = grind (arith, nat_tests, fits.1) in
     omega (arith, within, parts.1)
 
-asked_printable : (line : TransformLine) (name : PluginName) (words : List (List ℕ)) → Asks line name words
+pub asked_printable : (line : TransformLine) (name : PluginName) (words : List (List ℕ)) → Asks line name words
     → AllByRecursion IsFine words → IsPrintable line
 asked_printable t.Null name words asks fine = tt
 asked_printable (t.Append file text) name words asks fine =
@@ -101,86 +104,97 @@ asked_printable (t.Delay m) name words (named, (ms, are, first)) fine = number_s
 asked_printable (t.Limit m) name words (named, (most, are, first)) fine =
     number_small most_limit most m first
 
-line_printable : (line : List ℕ) (l : TransformLine) → Means line (Ok (Transform l)) → IsPrintable l
-line_printable line l means =
-    let (text, found) = in_words line (Transform l) means in
-    let (name, first, others, split, named, some) = entry_asked found.0 l found.2 in
-    let fine = subst (AllByRecursion IsFine) split
-    (words_fine found.0 line (text-from line text) found.1) in
-    asked_printable l name others (asked name others l some) fine.1
+-- and a transform line of request bodies
+abbrev pub IsPrintableRequest : TransformLine → Type 0
+IsPrintableRequest line = IsPrintable line × (is_delay line ≡ false)
 
-plugin_printable : (line : List ℕ) (p : PluginLine) → Means line (Ok (Plugin p))
-    → IsPrintablePlugin p
-plugin_printable line p means =
-    let (text, found) = in_words line (Plugin p) means in
-    let (name, first, others, split, named, some) = entry_hooked found.0 p found.2 in
-    let fine = subst (AllByRecursion IsFine) split
-    (words_fine found.0 line (text-from line text) found.1) in
-    hooked_printable name others p fine.1 some
+-- what an intercept can serve
+abbrev pub IsPrintableKind : InterceptKind → Type 0
+IsPrintableKind i.Echo = ⊤
+IsPrintableKind (i.Fill n) = n ≤ most_fill
+IsPrintableKind (i.File file text) = (is_site file ≡ true) × IsFine file
 
-lines_printable : (lines : List (List ℕ)) (es : List LineMeaning)
-    → AllZip (λ l m. Means l (Ok m)) lines es
-    → AllByRecursion IsPrintable (transforms_in es) × AllByRecursion IsPrintablePlugin (plugins_in es)
-lines_printable [] [] each = (tt, tt)
-lines_printable [] (e ∷ es) each = absurd each
-lines_printable (l ∷ ls) [] each = absurd each
-lines_printable (l ∷ ls) (Empty ∷ es) each = lines_printable ls es each.1
-lines_printable (l ∷ ls) (Transform t ∷ es) each =
-    let others = lines_printable ls es each.1 in ((line_printable l t each.0, others.0), others.1)
-lines_printable (l ∷ ls) (Plugin p ∷ es) each =
-    let others = lines_printable ls es each.1 in (others.0, (plugin_printable l p each.0, others.1))
+-- and for which host
+abbrev pub IsPrintableIntercept : InterceptLine → Type 0
+IsPrintableIntercept line = (is_site line.site ≡ true) × IsFine line.site × IsPrintableKind line.kind
 
--- the texts of files are left aside
+-- the number of a tap line
+abbrev pub IsPrintableTap : ℕ → Type 0
+IsPrintableTap most = (0 < most) × (most ≤ most_tap)
+
+-- any line
+abbrev pub IsPrintableEntry : LineMeaning → Type 0
+IsPrintableEntry Empty = ⊤
+IsPrintableEntry (Transform line) = IsPrintable line
+IsPrintableEntry (Request line) = IsPrintableRequest line
+IsPrintableEntry (Intercept line) = IsPrintableIntercept line
+IsPrintableEntry (Plugin line) = IsPrintablePlugin line
+IsPrintableEntry (Tap most) = IsPrintableTap most
+
+-- and all lines
+pub record ArePrintable (ls : ConfigLines) : Type 0 where
+  pub transforms : AllByRecursion IsPrintable ls.transforms
+  pub requests : AllByRecursion IsPrintableRequest ls.requests
+  pub intercepts : AllByRecursion IsPrintableIntercept ls.intercepts
+  pub plugins : AllByRecursion IsPrintablePlugin ls.plugins
+  pub taps : AllByRecursion IsPrintableTap ls.taps
+
+-- the text of a file is of no matter
+unmapped : {A : Type 0} (P : A → Type 0) (g : A → A) → ((x : A) → P (g x) → P x) → (xs : List A)
+    → AllByRecursion P (map g xs) → AllByRecursion P xs
+unmapped P g one [] are = tt
+unmapped P g one (x ∷ xs) are = (one x are.0, unmapped P g one xs are.1)
+
 untexted_printable : (line : TransformLine) → IsPrintable (untexted line) → IsPrintable line
-untexted_printable t.Null is = is
 untexted_printable (t.Append file text) is = is
-untexted_printable t.Bnull is = is
-untexted_printable (t.Prepend text) is = is
-untexted_printable (t.Map a b) is = is
-untexted_printable (t.Drop b) is = is
-untexted_printable (t.Delay m) is = is
-untexted_printable (t.Limit m) is = is
+untexted_printable line is = is
 
-all_untexted : (ls : List TransformLine) → AllByRecursion IsPrintable (map untexted ls)
-    → AllByRecursion IsPrintable ls
-all_untexted [] are = tt
-all_untexted (l ∷ ls) are = (untexted_printable l are.0, all_untexted ls are.1)
+untexted_request : (line : TransformLine) → IsPrintableRequest (untexted line) → IsPrintableRequest line
+untexted_request (t.Append file text) is = is
+untexted_request line is = is
 
--- lines that come from text can be printed
-pub come_printable : (ls : ConfigLines) → ComeFromText ls
-    → AllByRecursion IsPrintable ls.transforms × AllByRecursion IsPrintablePlugin ls.plugins
-come_printable ls from =
-    let are = lines_printable (config_lines from.bytes) from.read.es from.read.read.each in (
-      all_untexted ls.transforms (subst (AllByRecursion IsPrintable)
-          (sym (ap (λ (xs : ConfigLines). xs.transforms) from.read.lines_are)) are.0),
-      subst (AllByRecursion IsPrintablePlugin)
-          (sym (ap (λ (xs : ConfigLines). xs.plugins) from.read.lines_are)) are.1,
-    )
+untexted_kind : (kind : InterceptKind) → IsPrintableKind (kind_with_text [] kind) → IsPrintableKind kind
+untexted_kind (i.File file text) is = is
+untexted_kind kind is = is
 
--- and the names of their files are text
-printable_named : (line : TransformLine) → IsPrintable line → HasFileName line
-printable_named t.Null is = tt
-printable_named (t.Append file text) (some, fine) = fine.text.utf8
-printable_named t.Bnull is = tt
-printable_named (t.Prepend text) is = tt
-printable_named (t.Map a b) is = tt
-printable_named (t.Drop b) is = tt
-printable_named (t.Delay m) is = tt
-printable_named (t.Limit m) is = tt
+untexted_served : (line : InterceptLine) → IsPrintableIntercept (untexted_intercept line)
+    → IsPrintableIntercept line
+untexted_served line is = (is.0, is.1, untexted_kind line.kind is.2)
 
-all_named : (ls : List TransformLine) → AllByRecursion IsPrintable ls → AllByRecursion HasFileName ls
-all_named [] are = tt
-all_named (l ∷ ls) are = (printable_named l are.0, all_named ls are.1)
+pub untexted_all : (ls : ConfigLines) → ArePrintable (untexted_lines ls) → ArePrintable ls
+untexted_all ls are = record {
+  transforms = unmapped IsPrintable untexted untexted_printable ls.transforms are.transforms;
+  requests = unmapped IsPrintableRequest untexted untexted_request ls.requests are.requests;
+  intercepts = unmapped IsPrintableIntercept untexted_intercept untexted_served ls.intercepts are.intercepts;
+  plugins = are.plugins;
+  taps = are.taps;
+}
 
-pub come_named : (ls : ConfigLines) → ComeFromText ls → All HasFileName ls.transforms
-come_named ls from =
-    All-from_recursion HasFileName ls.transforms (all_named ls.transforms (come_printable ls from).0)
+-- the names of the files are text
+line_named : (line : TransformLine) → IsPrintable line → IfSome (file_of line) IsUtf8
+line_named (t.Append file text) is = let one : IsFine file = is.1 in one.text.utf8
+line_named line is = tt
 
--- and their rules are plain
-all_plain : (ps : List PluginLine) → AllByRecursion IsPrintablePlugin ps → AllByRecursion HasPlainRule ps
-all_plain [] are = tt
-all_plain (p ∷ ps) are = (hooked_plain p are.0, all_plain ps are.1)
+kind_named : (kind : InterceptKind) → IsPrintableKind kind → IfSome (file_served kind) IsUtf8
+kind_named (i.File file text) is = let one : IsFine file = is.1 in one.text.utf8
+kind_named kind is = tt
 
-pub come_plain : (ls : ConfigLines) → ComeFromText ls → All HasPlainRule ls.plugins
-come_plain ls from =
-    All-from_recursion HasPlainRule ls.plugins (all_plain ls.plugins (come_printable ls from).1)
+named_at : {A : Type 0} (P : A → Type 0) (f : A → Option (List ℕ)) → ((x : A) → P x → IfSome (f x) IsUtf8)
+    → (xs : List A) (k : ℕ) → AllByRecursion P xs → IfSome (option_and_then f (slice_get xs k)) IsUtf8
+named_at P f one [] k are = tt
+named_at P f one (x ∷ xs) zero are = one x are.0
+named_at P f one (x ∷ xs) (suc k) are = named_at P f one xs k are.1
+
+pub files_named : (ls : ConfigLines) → ArePrintable ls → (place : FilePlace)
+    → IfSome (file_at ls place) IsUtf8
+files_named ls are (p.Transform k) = named_at IsPrintable file_of line_named ls.transforms k are.transforms
+files_named ls are (p.Request k) =
+    named_at IsPrintableRequest file_of (λ line is. line_named line is.0) ls.requests k are.requests
+files_named ls are (p.Intercept k) =
+    named_at IsPrintableIntercept (λ (line : InterceptLine). file_served line.kind)
+    (λ line is. kind_named line.kind is.2) ls.intercepts k are.intercepts
+
+-- and the rules are plain
+pub rules_plain : (ps : List PluginLine) → AllByRecursion IsPrintablePlugin ps → All HasPlainRule ps
+rules_plain ps are =
+    All-from_recursion HasPlainRule ps (each_weaker IsPrintablePlugin HasPlainRule ps hooked_plain are)

@@ -1,6 +1,6 @@
 -- What is printed is read back.
-use Rattle.std.proofs.Common.{◌≡◌, ℕ, ◌/◌, ◌%◌, ◌^◌, ◌<◌, ◌≤◌, List, [], ◌∷◌, ◌++◌, length, map, Bool, true, false, cond, Some, None, Ok, Err, ◌⊎◌, inl, inr, refl, ap, sym, ◌∙◌, subst, arith, append_assoc}
-use Rattle.std.specs.Prelude.{◌==◌, flat_map, nat_le, MatchBool}
+use Rattle.std.proofs.Common.{◌≡◌, ℕ, ◌/◌, ◌%◌, ◌^◌, ◌<◌, ◌≤◌, List, [], ◌∷◌, ◌++◌, length, map, Bool, true, false, cond, Some, None, Ok, Err, inl, refl, ap, sym, ◌∙◌, subst, arith, append_assoc, append-nil}
+use Rattle.std.specs.Prelude.{◌==◌, codes, flat_map, nat_le, nat_lt, MatchBool}
 use Rattle.std.specs.Option.{option_map, option_and_then}
 use Rattle.std.specs.List.{AllByRecursion, AllZip}
 use Rattle.std.specs.Fmt.{decimal}
@@ -10,28 +10,36 @@ use Rattle.std.specs.Str.Parse.{AllDigits}
 use Rattle.std.proofs.lemmas.Fmt.{decimal_is_IsNumeral}
 use Rattle.std.proofs.lemmas.Str.Parse.{digit_from_value}
 use Rattle.std.proofs.lemmas.Bool.Decides.{nat_tests}
+use Rattle.std.proofs.lemmas.Grind.{flat_map-append}
+use Rattle.std.proofs.lemmas.List.Folds.{flat_map-map}
+use Rattle.ts_lists.proofs.Elements.{each_weaker}
 use Rattle.ts_config.specs.declared.fields.PluginLine.{PluginLine}
+use Rattle.ts_config.specs.declared.setup.InterceptKind.{InterceptKind}
+use Rattle.ts_config.specs.declared.setup.InterceptKind.TheVariants as i
+use Rattle.ts_config.specs.declared.setup.InterceptLine.{InterceptLine}
 use Rattle.ts_config.specs.declared.setup.TransformLine.{TransformLine}
 use Rattle.ts_config.specs.declared.setup.TransformLine.TheVariants as t
 use Rattle.ts_config.specs.declared.setup.ConfigKind.TheVariants as k
 use Rattle.ts_config.specs.declared.setup.LineMeaning.{LineMeaning}
-use Rattle.ts_config.specs.declared.setup.LineMeaning.TheVariants.{Transform, Plugin}
+use Rattle.ts_config.specs.declared.setup.LineMeaning.TheVariants.{Empty, Transform, Request, Intercept, Plugin, Tap}
 use Rattle.ts_config.specs.declared.table.PluginName.{PluginName}
 use Rattle.ts_config.specs.declared.table.PluginName.TheVariants as n
-use Rattle.ts_config.specs.Bytes.{most_limit}
+use Rattle.ts_config.specs.Bytes.{most_fill, most_limit, most_tap}
 use Rattle.ts_config.specs.Numerals.{byte_of, byte_word, hex_digit}
 use Rattle.ts_config.specs.Lines.{config_lines}
-use Rattle.ts_config.specs.Printing.{spelled_words, line_name, line_arguments, plugin_name, printed_line, printed_plugin, printed}
+use Rattle.ts_config.specs.Printing.{spelled_words, line_name, line_arguments, plugin_name, printed_line, request_words, printed_request, kind_words, printed_intercept, printed_plugin, printed_tap, printed}
 use Rattle.ts_config.specs.Reading.{is_text_byte, Means, MeansByWords, lines_in, AreFew, AreRead, IsConfiguration, ComeFromText}
 use Rattle.ts_config.specs.Rules.{plugin_words}
-use Rattle.ts_config.specs.Setup.{ConfigLines, untexted, untexted_lines}
-use Rattle.ts_config.specs.Table.{spelling, name_of, transform_of, plugin_of, fitting, named_entry, line_entry}
+use Rattle.ts_config.specs.Setup.{ConfigLines, kind_with_text, no_lines, untexted, untexted_intercept, untexted_lines}
+use Rattle.ts_config.specs.Table.{spelling, name_of, transform_of, unhurried_of, kind_of, asked_of, fitting, named_entry, line_entry}
 use Rattle.ts_config.specs.Words.{is_end, IsPlain, IsWords}
 use Rattle.ts_config.proofs.Again.{byte_again, number_again}
+use Rattle.ts_config.proofs.Asked.{is_delay}
 use Rattle.ts_config.proofs.FineWords.{IsFine}
-use Rattle.ts_config.proofs.Hooked.{IsPrintablePlugin, hooked_again, hooked_fine, no_transform}
-use Rattle.ts_config.proofs.Meanings.{lines_of_both}
-use Rattle.ts_config.proofs.Printable.{IsPrintable, come_printable}
+use Rattle.ts_config.proofs.Fresh.{come_printable, each_append, untexted_entry}
+use Rattle.ts_config.proofs.Hooked.{hooked_again, hooked_fine}
+use Rattle.ts_config.proofs.Meanings.{same_lines}
+use Rattle.ts_config.proofs.Printable.{IsPrintable, IsPrintableRequest, IsPrintableKind, IsPrintableIntercept, IsPrintableTap, IsPrintableEntry, ArePrintable}
 use Rattle.ts_config.proofs.Spelled.{line_words_again, words_text, none_ends}
 use Rattle.ts_config.proofs.TextLines.{lines_again}
 use Rattle.ts_config.proofs.TextParts.{IsText, plain_text, text-is, text-append, text-cons, text-nil}
@@ -115,8 +123,12 @@ name_plain n.Map = (refl, none_ends (spelling n.Map) refl)
 name_plain n.Drop = (refl, none_ends (spelling n.Drop) refl)
 name_plain n.Delay = (refl, none_ends (spelling n.Delay) refl)
 name_plain n.Limit = (refl, none_ends (spelling n.Limit) refl)
+name_plain n.Request = (refl, none_ends (spelling n.Request) refl)
+name_plain n.Intercept = (refl, none_ends (spelling n.Intercept) refl)
+name_plain n.Tap = (refl, none_ends (spelling n.Tap) refl)
 name_plain n.Deny = (refl, none_ends (spelling n.Deny) refl)
 name_plain n.Header = (refl, none_ends (spelling n.Header) refl)
+name_plain n.SessionHeader = (refl, none_ends (spelling n.SessionHeader) refl)
 
 name_text : (name : PluginName) → IsText (spelling name)
 name_text n.Null = plain_text (spelling n.Null) refl
@@ -127,8 +139,12 @@ name_text n.Map = plain_text (spelling n.Map) refl
 name_text n.Drop = plain_text (spelling n.Drop) refl
 name_text n.Delay = plain_text (spelling n.Delay) refl
 name_text n.Limit = plain_text (spelling n.Limit) refl
+name_text n.Request = plain_text (spelling n.Request) refl
+name_text n.Intercept = plain_text (spelling n.Intercept) refl
+name_text n.Tap = plain_text (spelling n.Tap) refl
 name_text n.Deny = plain_text (spelling n.Deny) refl
 name_text n.Header = plain_text (spelling n.Header) refl
+name_text n.SessionHeader = plain_text (spelling n.SessionHeader) refl
 
 name_again : (name : PluginName) → name_of (spelling name) ≡ Some name
 name_again n.Null = refl
@@ -139,8 +155,12 @@ name_again n.Map = refl
 name_again n.Drop = refl
 name_again n.Delay = refl
 name_again n.Limit = refl
+name_again n.Request = refl
+name_again n.Intercept = refl
+name_again n.Tap = refl
 name_again n.Deny = refl
 name_again n.Header = refl
+name_again n.SessionHeader = refl
 
 -- a line
 arguments_fine : (l : TransformLine) → IsPrintable l → AllByRecursion IsFine (line_arguments l)
@@ -188,125 +208,262 @@ line_is_text name words fine =
 
 -- a line means what its name and words mean
 line_means : (name : PluginName) (words : List (List ℕ)) (e : LineMeaning) → AllByRecursion IsFine words
-    → fitting (transform_of name words) (plugin_of name words) ≡ Ok e
-    → Means (words_line name words) (Ok e)
+    → asked_of name words ≡ Some e → Means (words_line name words) (Ok e)
 line_means name words e fine is =
     let line : List ℕ = words_line name words in
     let are : IsWords line (spelling name ∷ words) =
     line_words_again (spelling name) words (name_plain name) fine in
     let entry : line_entry (spelling name ∷ words) ≡ Ok e =
-    ap (λ o. named_entry o words) (name_again name) ∙ is in
+    ap (λ o. named_entry o words) (name_again name) ∙ ap fitting is in
     subst (λ b. MatchBool b (MeansByWords line (Ok e)) (Ok e ≡ Err k.Text))
     (sym (text-is line (line_is_text name words fine)))
     (inl (spelling name ∷ words, are, sym entry))
 
+-- ---- the words of each kind of line
+
+transform_asked : (l : TransformLine) → IsPrintable l
+    → asked_of (line_name l) (line_arguments l) ≡ Some (Transform (untexted l))
+transform_asked l is = by_line l (transform_again l is)
+  where
+    by_line : (l : TransformLine) → transform_of (line_name l) (line_arguments l) ≡ Some (untexted l)
+        → asked_of (line_name l) (line_arguments l) ≡ Some (Transform (untexted l))
+    by_line t.Null again = ap (option_map Transform) again
+    by_line (t.Append file text) again = ap (option_map Transform) again
+    by_line t.Bnull again = ap (option_map Transform) again
+    by_line (t.Prepend text) again = ap (option_map Transform) again
+    by_line (t.Map a b) again = ap (option_map Transform) again
+    by_line (t.Drop b) again = ap (option_map Transform) again
+    by_line (t.Delay m) again = ap (option_map Transform) again
+    by_line (t.Limit m) again = ap (option_map Transform) again
+
+name_fine : (name : PluginName) → IsFine (spelling name)
+name_fine name = record { writable = inl (name_plain name); text = name_text name }
+
+request_fine : (l : TransformLine) → IsPrintableRequest l → AllByRecursion IsFine (request_words l)
+request_fine l is = (name_fine (line_name l), arguments_fine l is.0)
+
+unhurried_again : (l : TransformLine) (words : List (List ℕ)) → is_delay l ≡ false
+    → unhurried_of (line_name l) words ≡ transform_of (line_name l) words
+unhurried_again (t.Delay m) words quick = absurd (let wrong : true ≡ false = quick in cc)
+unhurried_again l words quick = refl
+
+request_asked : (l : TransformLine) → IsPrintableRequest l
+    → asked_of n.Request (request_words l) ≡ Some (Request (untexted l))
+request_asked l is =
+    let words : List (List ℕ) = line_arguments l in
+    ap (λ o. option_map Request (option_and_then (λ name. unhurried_of name words) o)) (name_again (line_name l))
+    ∙ ap (option_map Request) (unhurried_again l words is.1 ∙ transform_again l is.0)
+
+echo_fine : IsFine (codes "echo")
+echo_fine = record { writable = inl (refl, none_ends (codes "echo") refl); text = plain_text (codes "echo") refl }
+
+fill_fine : IsFine (codes "fill")
+fill_fine = record { writable = inl (refl, none_ends (codes "fill") refl); text = plain_text (codes "fill") refl }
+
+file_fine : IsFine (codes "file")
+file_fine = record { writable = inl (refl, none_ends (codes "file") refl); text = plain_text (codes "file") refl }
+
+kind_fine : (kind : InterceptKind) → IsPrintableKind kind → AllByRecursion IsFine (kind_words kind)
+kind_fine i.Echo is = (echo_fine, tt)
+kind_fine (i.Fill n) is = (fill_fine, (fine_number n (omega (arith, is)), tt))
+kind_fine (i.File file text) is = (file_fine, (is.1, tt))
+
+kind_again : (kind : InterceptKind) → IsPrintableKind kind
+    → kind_of (kind_words kind) ≡ Some (kind_with_text [] kind)
+kind_again i.Echo is = refl
+kind_again (i.Fill n) is = ap (option_map i.Fill) (number_again most_fill n is (omega arith))
+kind_again (i.File file text) is = ap (λ b. cond b (Some (i.File file [])) None) is.0
+
+intercept_asked : (l : InterceptLine) → IsPrintableIntercept l
+    → asked_of n.Intercept (l.site ∷ kind_words l.kind) ≡ Some (Intercept (untexted_intercept l))
+intercept_asked l is =
+    let put : InterceptKind → InterceptLine = λ kind. record { site = l.site; kind = kind } in
+    ap (λ b. option_map Intercept (cond b (option_map put (kind_of (kind_words l.kind))) None)) is.0
+    ∙ ap (λ o. option_map Intercept (option_map put o)) (kind_again l.kind is.2)
+
+tap_asked : (most : ℕ) → IsPrintableTap most → asked_of n.Tap (decimal most ∷ []) ≡ Some (Tap most)
+tap_asked most is =
+    let above : nat_lt 0 most ≡ true = grind (arith, nat_tests, is.0) in
+    ap (λ o. option_map Tap (option_and_then (λ m. cond (nat_lt 0 m) (Some m) None) o))
+    (number_again most_tap most is.1 (omega arith))
+    ∙ ap (λ b. option_map Tap (cond b (Some most) None)) above
+
 -- ---- all lines
 
--- a line of either kind
-abbrev Entry : Type 0
-Entry = TransformLine ⊎ PluginLine
+-- the words of a line as they are printed, without its line feed
+abbrev entry_text : LineMeaning → List ℕ
+entry_text Empty = []
+entry_text (Transform l) = words_line (line_name l) (line_arguments l)
+entry_text (Request l) = words_line n.Request (request_words l)
+entry_text (Intercept l) = words_line n.Intercept (l.site ∷ kind_words l.kind)
+entry_text (Plugin l) = words_line (plugin_name l) (plugin_words l)
+entry_text (Tap most) = words_line n.Tap (decimal most ∷ [])
 
-abbrev IsPrintableEntry : Entry → Type 0
-IsPrintableEntry (inl l) = IsPrintable l
-IsPrintableEntry (inr p) = IsPrintablePlugin p
+-- kind by kind
+abbrev entries : ConfigLines → List LineMeaning
+entries ls =
+    map Transform ls.transforms ++ (map Request ls.requests ++ (map Intercept ls.intercepts
+    ++ (map Plugin ls.plugins ++ map Tap ls.taps)))
 
-abbrev entry_text : Entry → List ℕ
-entry_text (inl l) = words_line (line_name l) (line_arguments l)
-entry_text (inr p) = words_line (plugin_name p) (plugin_words p)
+each_map : {A B : Type 0} (P : B → Type 0) (f : A → B) (xs : List A) → AllByRecursion (λ x. P (f x)) xs
+    → AllByRecursion P (map f xs)
+each_map P f [] are = tt
+each_map P f (x ∷ xs) are = (are.0, each_map P f xs are.1)
 
-abbrev meaning : Entry → LineMeaning
-meaning (inl l) = Transform (untexted l)
-meaning (inr p) = Plugin p
+entries_printable : (ls : ConfigLines) → ArePrintable ls → AllByRecursion IsPrintableEntry (entries ls)
+entries_printable ls are =
+    each_append IsPrintableEntry (map Transform ls.transforms) _
+    (each_map IsPrintableEntry Transform ls.transforms are.transforms)
+    (each_append IsPrintableEntry (map Request ls.requests) _
+    (each_map IsPrintableEntry Request ls.requests are.requests)
+    (each_append IsPrintableEntry (map Intercept ls.intercepts) _
+    (each_map IsPrintableEntry Intercept ls.intercepts are.intercepts)
+    (each_append IsPrintableEntry (map Plugin ls.plugins) _
+    (each_map IsPrintableEntry Plugin ls.plugins are.plugins)
+    (each_map IsPrintableEntry Tap ls.taps are.taps))))
 
-abbrev hooks : List PluginLine → List Entry
-hooks ps = map (λ p. inr p) ps
+tap_small : (most : ℕ) → IsPrintableTap most → most < 2 ^ 64
+tap_small most is = omega (arith, is.1)
 
--- the transform lines, and then those of hook plugins
-abbrev entries : List TransformLine → List PluginLine → List Entry
-entries [] ps = hooks ps
-entries (l ∷ ls) ps = inl l ∷ entries ls ps
+entry_is_text : (e : LineMeaning) → IsPrintableEntry e → IsText (entry_text e)
+entry_is_text Empty is = text-nil
+entry_is_text (Transform l) is = line_is_text (line_name l) (line_arguments l) (arguments_fine l is)
+entry_is_text (Request l) is = line_is_text n.Request (request_words l) (request_fine l is)
+entry_is_text (Intercept l) is =
+    line_is_text n.Intercept (l.site ∷ kind_words l.kind) (is.1, kind_fine l.kind is.2)
+entry_is_text (Plugin l) is = line_is_text (plugin_name l) (plugin_words l) (hooked_fine l is)
+entry_is_text (Tap most) is =
+    line_is_text n.Tap (decimal most ∷ []) (fine_number most (tap_small most is), tt)
 
-hooks_printable : (ps : List PluginLine) → AllByRecursion IsPrintablePlugin ps
-    → AllByRecursion IsPrintableEntry (hooks ps)
-hooks_printable [] are = tt
-hooks_printable (p ∷ ps) are = (are.0, hooks_printable ps are.1)
-
-entries_printable : (ls : List TransformLine) (ps : List PluginLine) → AllByRecursion IsPrintable ls
-    → AllByRecursion IsPrintablePlugin ps → AllByRecursion IsPrintableEntry (entries ls ps)
-entries_printable [] ps are plugins = hooks_printable ps plugins
-entries_printable (l ∷ ls) ps are plugins = (are.0, entries_printable ls ps are.1 plugins)
-
-entry_is_text : (x : Entry) → IsPrintableEntry x → IsText (entry_text x)
-entry_is_text (inl l) is = line_is_text (line_name l) (line_arguments l) (arguments_fine l is)
-entry_is_text (inr p) is = line_is_text (plugin_name p) (plugin_words p) (hooked_fine p is)
-
-entry_means : (x : Entry) → IsPrintableEntry x → Means (entry_text x) (Ok (meaning x))
-entry_means (inl l) is =
+entry_means : (e : LineMeaning) → IsPrintableEntry e → Means (entry_text e) (Ok (untexted_entry e))
+entry_means Empty is =
+    subst (λ b. MatchBool b (MeansByWords [] (Ok Empty)) (Ok Empty ≡ Err k.Text)) (sym (text-is [] text-nil))
+    (inl ([], ([], [], tt, tt, refl), refl))
+entry_means (Transform l) is =
     line_means (line_name l) (line_arguments l) (Transform (untexted l)) (arguments_fine l is)
-    (ap (λ o. fitting o (plugin_of (line_name l) (line_arguments l))) (transform_again l is))
-entry_means (inr p) is =
-    line_means (plugin_name p) (plugin_words p) (Plugin p) (hooked_fine p is)
-    (ap (λ o. fitting o (plugin_of (plugin_name p) (plugin_words p))) (no_transform p (plugin_words p))
-    ∙ ap (fitting None) (hooked_again p is))
+    (transform_asked l is)
+entry_means (Request l) is =
+    line_means n.Request (request_words l) (Request (untexted l)) (request_fine l is) (request_asked l is)
+entry_means (Intercept l) is =
+    line_means n.Intercept (l.site ∷ kind_words l.kind) (Intercept (untexted_intercept l))
+    (is.1, kind_fine l.kind is.2) (intercept_asked l is)
+entry_means (Plugin l) is =
+    line_means (plugin_name l) (plugin_words l) (Plugin l) (hooked_fine l is) (hooked_again l is)
+entry_means (Tap most) is =
+    line_means n.Tap (decimal most ∷ []) (Tap most) (fine_number most (tap_small most is), tt)
+    (tap_asked most is)
 
-all_text : (xs : List Entry) → AllByRecursion IsPrintableEntry xs
-    → AllByRecursion (λ x. IsText (entry_text x)) xs
-all_text [] are = tt
-all_text (x ∷ xs) are = (entry_is_text x are.0, all_text xs are.1)
-
-all_mean : (xs : List Entry) → AllByRecursion IsPrintableEntry xs
-    → AllZip (λ l m. Means l (Ok m)) (map entry_text xs) (map meaning xs)
+all_mean : (es : List LineMeaning) → AllByRecursion IsPrintableEntry es
+    → AllZip (λ l m. Means l (Ok m)) (map entry_text es) (map untexted_entry es)
 all_mean [] are = tt
-all_mean (x ∷ xs) are = (entry_means x are.0, all_mean xs are.1)
+all_mean (e ∷ es) are = (entry_means e are.0, all_mean es are.1)
 
 -- the lines are printed one by one
-abbrev entry_line : Entry → List ℕ
-entry_line x = entry_text x ++ 10 ∷ []
+abbrev entry_line : LineMeaning → List ℕ
+entry_line e = entry_text e ++ 10 ∷ []
 
-hooks_printed : (ps : List PluginLine) → flat_map printed_plugin ps ≡ flat_map entry_line (hooks ps)
-hooks_printed [] = refl
-hooks_printed (p ∷ ps) = ap (λ text. printed_plugin p ++ text) (hooks_printed ps)
+nested : (a b c d e : List ℕ) → (((a ++ b) ++ c) ++ d) ++ e ≡ a ++ (b ++ (c ++ (d ++ e)))
+nested a b c d e =
+    append_assoc ((a ++ b) ++ c) d e ∙ append_assoc (a ++ b) c (d ++ e) ∙ append_assoc a b (c ++ (d ++ e))
 
-entries_printed : (ls : List TransformLine) (ps : List PluginLine)
-    → flat_map printed_line ls ++ flat_map printed_plugin ps ≡ flat_map entry_line (entries ls ps)
-entries_printed [] ps = hooks_printed ps
-entries_printed (l ∷ ls) ps =
-    append_assoc (printed_line l) (flat_map printed_line ls) (flat_map printed_plugin ps)
-    ∙ ap (λ text. printed_line l ++ text) (entries_printed ls ps)
+kind_printed : {A : Type 0} (put : A → LineMeaning) (xs : List A) (es : List LineMeaning) (rest : List ℕ)
+    → flat_map entry_line es ≡ rest
+    → flat_map entry_line (map put xs ++ es) ≡ flat_map (λ x. entry_line (put x)) xs ++ rest
+kind_printed put xs es rest is =
+    flat_map-append entry_line (map put xs) es
+    ∙ ap (λ front. front ++ flat_map entry_line es) (flat_map-map entry_line put xs)
+    ∙ ap (λ back. flat_map (λ x. entry_line (put x)) xs ++ back) is
+
+entries_printed : (ls : ConfigLines) → printed ls ≡ flat_map entry_line (entries ls)
+entries_printed ls =
+    let taps : List ℕ = flat_map printed_tap ls.taps in
+    let plugins : List ℕ = flat_map printed_plugin ls.plugins ++ taps in
+    let intercepts : List ℕ = flat_map printed_intercept ls.intercepts ++ plugins in
+    let requests : List ℕ = flat_map printed_request ls.requests ++ intercepts in
+    nested (flat_map printed_line ls.transforms) (flat_map printed_request ls.requests)
+    (flat_map printed_intercept ls.intercepts) (flat_map printed_plugin ls.plugins) taps
+    ∙ sym (kind_printed Transform ls.transforms _ requests (kind_printed Request ls.requests _ intercepts
+    (kind_printed Intercept ls.intercepts _ plugins (kind_printed Plugin ls.plugins _ taps
+    (flat_map-map entry_line Tap ls.taps)))))
 
 -- and mean the lines
-hooks_meant : (ps : List PluginLine) → lines_in (map meaning (hooks ps)) ≡ lines_of_both [] ps
-hooks_meant [] = refl
-hooks_meant (p ∷ ps) =
-    ap (λ (ls : ConfigLines). lines_of_both ls.transforms (p ∷ ls.plugins)) (hooks_meant ps)
+abbrev put_transforms : List TransformLine → ConfigLines → ConfigLines
+put_transforms xs ls = record ls { transforms = xs ++ ls.transforms }
 
-entries_meant : (ls : List TransformLine) (ps : List PluginLine)
-    → lines_in (map meaning (entries ls ps)) ≡ lines_of_both (map untexted ls) ps
-entries_meant [] ps = hooks_meant ps
-entries_meant (l ∷ ls) ps =
-    ap (λ (xs : ConfigLines). lines_of_both (untexted l ∷ xs.transforms) xs.plugins) (entries_meant ls ps)
+abbrev put_requests : List TransformLine → ConfigLines → ConfigLines
+put_requests xs ls = record ls { requests = xs ++ ls.requests }
 
-printed_again : (ls : ConfigLines) → AllByRecursion IsPrintable ls.transforms
-    → AllByRecursion IsPrintablePlugin ls.plugins → AreFew (untexted_lines ls)
+abbrev put_intercepts : List InterceptLine → ConfigLines → ConfigLines
+put_intercepts xs ls = record ls { intercepts = xs ++ ls.intercepts }
+
+abbrev put_plugins : List PluginLine → ConfigLines → ConfigLines
+put_plugins xs ls = record ls { plugins = xs ++ ls.plugins }
+
+abbrev put_taps : List ℕ → ConfigLines → ConfigLines
+put_taps xs ls = record ls { taps = xs ++ ls.taps }
+
+-- the lines that these entries mean, without texts of files
+abbrev meant : List LineMeaning → ConfigLines
+meant es = lines_in (map untexted_entry es)
+
+transforms_meant : (xs : List TransformLine) (es : List LineMeaning)
+    → meant (map Transform xs ++ es) ≡ put_transforms (map untexted xs) (meant es)
+transforms_meant [] es = refl
+transforms_meant (x ∷ xs) es = ap (put_transforms (untexted x ∷ [])) (transforms_meant xs es)
+
+requests_meant : (xs : List TransformLine) (es : List LineMeaning)
+    → meant (map Request xs ++ es) ≡ put_requests (map untexted xs) (meant es)
+requests_meant [] es = refl
+requests_meant (x ∷ xs) es = ap (put_requests (untexted x ∷ [])) (requests_meant xs es)
+
+intercepts_meant : (xs : List InterceptLine) (es : List LineMeaning)
+    → meant (map Intercept xs ++ es) ≡ put_intercepts (map untexted_intercept xs) (meant es)
+intercepts_meant [] es = refl
+intercepts_meant (x ∷ xs) es = ap (put_intercepts (untexted_intercept x ∷ [])) (intercepts_meant xs es)
+
+plugins_meant : (xs : List PluginLine) (es : List LineMeaning)
+    → meant (map Plugin xs ++ es) ≡ put_plugins xs (meant es)
+plugins_meant [] es = refl
+plugins_meant (x ∷ xs) es = ap (put_plugins (x ∷ [])) (plugins_meant xs es)
+
+taps_meant : (xs : List ℕ) → meant (map Tap xs) ≡ put_taps xs no_lines
+taps_meant [] = refl
+taps_meant (x ∷ xs) = ap (put_taps (x ∷ [])) (taps_meant xs)
+
+entries_meant : (ls : ConfigLines) → meant (entries ls) ≡ untexted_lines ls
+entries_meant ls =
+    let taps = taps_meant ls.taps in
+    let plugins = plugins_meant ls.plugins (map Tap ls.taps) ∙ ap (put_plugins ls.plugins) taps in
+    let intercepts = intercepts_meant ls.intercepts (map Plugin ls.plugins ++ map Tap ls.taps)
+    ∙ ap (put_intercepts (map untexted_intercept ls.intercepts)) plugins in
+    let requests = requests_meant ls.requests
+    (map Intercept ls.intercepts ++ (map Plugin ls.plugins ++ map Tap ls.taps))
+    ∙ ap (put_requests (map untexted ls.requests)) intercepts in
+    transforms_meant ls.transforms
+    (map Request ls.requests ++ (map Intercept ls.intercepts ++ (map Plugin ls.plugins ++ map Tap ls.taps)))
+    ∙ ap (put_transforms (map untexted ls.transforms)) requests
+    ∙ same_lines (append-nil (map untexted ls.transforms)) (append-nil (map untexted ls.requests))
+    (append-nil (map untexted_intercept ls.intercepts)) (append-nil ls.plugins) (append-nil ls.taps)
+
+printed_again : (ls : ConfigLines) → ArePrintable ls → AreFew (untexted_lines ls)
     → IsConfiguration (printed ls) (untexted_lines ls)
-printed_again ls are plugins few =
-    let xs : List Entry = entries ls.transforms ls.plugins in
-    let fine : AllByRecursion IsPrintableEntry xs =
-    entries_printable ls.transforms ls.plugins are plugins in
-    let meant : lines_in (map meaning xs) ≡ untexted_lines ls = entries_meant ls.transforms ls.plugins in
-    let cut : config_lines (printed ls) ≡ map entry_text xs =
-    ap config_lines (entries_printed ls.transforms ls.plugins)
-    ∙ lines_again entry_text xs (all_text xs fine) in
+printed_again ls are few =
+    let es : List LineMeaning = entries ls in
+    let fine : AllByRecursion IsPrintableEntry es = entries_printable ls are in
+    let meant_are : lines_in (map untexted_entry es) ≡ untexted_lines ls = entries_meant ls in
+    let cut : config_lines (printed ls) ≡ map entry_text es =
+    ap config_lines (entries_printed ls)
+    ∙ lines_again entry_text es
+    (each_weaker IsPrintableEntry (λ e. IsText (entry_text e)) es entry_is_text fine) in
     record {
-      es = map meaning xs;
-      read = subst (λ lines. AreRead lines (map meaning xs)) (sym cut)
-          (record { each = all_mean xs fine; few = subst AreFew (sym meant) few });
-      lines_are = sym meant;
+      es = map untexted_entry es;
+      read = subst (λ lines. AreRead lines (map untexted_entry es)) (sym cut)
+          (record { each = all_mean es fine; few = subst AreFew (sym meant_are) few });
+      lines_are = sym meant_are;
     }
 
 -- lines that come from text are read back
 pub come_again : (ls : ConfigLines) → ComeFromText ls
     → IsConfiguration (printed ls) (untexted_lines ls)
 come_again ls from =
-    let (are, plugins) = come_printable ls from in
-    printed_again ls are plugins (subst AreFew (sym from.read.lines_are) from.read.read.few)
+    printed_again ls (come_printable ls from) (subst AreFew (sym from.read.lines_are) from.read.read.few)

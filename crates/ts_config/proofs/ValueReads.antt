@@ -9,16 +9,19 @@ use Rattle.ts_config.specs.declared.setup.ConfigKind.{ConfigKind}
 use Rattle.ts_config.specs.declared.setup.ConfigKind.TheVariants as k
 use Rattle.ts_config.specs.declared.setup.ConfigRefusal.{ConfigRefusal}
 use Rattle.ts_config.specs.declared.setup.ConfigRefusal.TheVariants as c
+use Rattle.ts_config.specs.declared.read.LineRefusal.{LineRefusal}
+use Rattle.ts_config.specs.declared.read.LineRefusal.TheVariants as r
+use Rattle.ts_config.specs.declared.setup.FilePlace.{FilePlace}
 use Rattle.ts_config.specs.declared.setup.LineMeaning.{LineMeaning}
 use Rattle.ts_config.specs.Lines.{config_lines}
 use Rattle.ts_config.specs.Setup.{ConfigLines}
 use Rattle.ts_config.specs.Words.{is_blank, is_end, EndsWord, HasNoWord, BeginsWithWord, IsWords}
-use Rattle.ts_config.specs.Reading.{is_text, Means, MeansByWords, lines_in, with_line, has_room, AreFew, AreRead, Breaks, IsFault, IsConfiguration, RefusesRightly}
-use Rattle.ts_config.specs.Scanning.{AreWords}
+use Rattle.ts_config.specs.Reading.{is_text, Means, MeansByWords, lines_in, with_line, has_room, file_in, files_behind, AreFew, AreFiles, AreRead, Breaks, IsFault, IsConfiguration, RefusesRightly}
+use Rattle.ts_config.specs.Scanning.{AnswersAsRead, AreWords, MeansUnlessMemory}
 use Rattle.ts_config.specs.Value.{Front, nothing, word, unclosed, is_plain_byte, is_quotable_byte, quoted, front_of_text, front_of, words_behind, words_below, words_in, meaning_of_words, meaning_of, Reading, Good, Bad, next_lines, read_lines, config_of, IsReading, IsConfigRefusal}
 use Rattle.ts_config.proofs.Fronts.{never_closed, closed_within, closed_word, end-found, spelled-found, plain-found, no_words}
-use Rattle.ts_config.proofs.LinesSoFar.{each_more, few_more, lines_in-more, no_lines_few}
-use Rattle.ts_config.proofs.OneReading.{one_reading, read_or_fault, one_fault}
+use Rattle.ts_config.proofs.LinesSoFar.{each_more, few_more, files_more, lines_in-more, no_lines_few}
+use Rattle.ts_config.proofs.OneReading.{means_once, one_order, one_reading, read_or_fault, one_fault}
 use Rattle.ts_config.proofs.Scan.{behind_quote, one_word, word_or_none}
 use Rattle.ts_config.proofs.WordsSoFar.{rest_shorter}
 
@@ -114,16 +117,25 @@ meaning_right line =
     by_words (Some words) are = inl (words, are, refl)
     by_words None unfit = inr (unfit, refl)
 
+-- and so it is answered
+pub meaning_value : (line : List ℕ) (answer : Result LineMeaning LineRefusal) → MeansUnlessMemory line answer
+    → AnswersAsRead answer (meaning_of line)
+meaning_value line (Ok e) means = means_once line (meaning_of line) (Ok e) (meaning_right line) means
+meaning_value line (Err r.NoMemory) means = tt
+meaning_value line (Err (r.Kind kind)) means =
+    means_once line (meaning_of line) (Err kind) (meaning_right line) means
+
 -- lines behind those that were read
 abbrev AreSo : List (List ℕ) → Reading → Type 0
-AreSo lines (Good ls) = (es : List LineMeaning) × AreRead lines es × (ls ≡ lines_in es)
+AreSo lines (Good ls places) =
+    (es : List LineMeaning) × AreRead lines es × (ls ≡ lines_in es) × (places ≡ files_behind [] es)
 AreSo lines (Bad n kind) = IsFault lines n kind
 
 lines_right : (lines before : List (List ℕ)) (es : List LineMeaning) (n : ℕ) → AreRead before es
     → n ≡ length before
-    → AreSo (before ++ lines) (read_lines lines n (lines_in es))
+    → AreSo (before ++ lines) (read_lines lines n (lines_in es) (files_behind [] es))
 lines_right [] before es n read is =
-    (es, subst (λ ls. AreRead ls es) (sym (append-nil before)) read, refl)
+    (es, subst (λ ls. AreRead ls es) (sym (append-nil before)) read, refl, refl)
 lines_right (line ∷ lines) before es n read is =
     by_meaning (λ first fs m fine number. lines_right lines first fs m fine number) (meaning_of line)
     (meaning_right line)
@@ -143,34 +155,39 @@ lines_right (line ∷ lines) before es n read is =
 
     go_on : ((first : List (List ℕ)) (fs : List LineMeaning) (m : ℕ) → AreRead first fs
         → m ≡ length first
-        → AreSo (first ++ lines) (read_lines lines m (lines_in fs)))
+        → AreSo (first ++ lines) (read_lines lines m (lines_in fs) (files_behind [] fs)))
         → (e : LineMeaning) → Means line (Ok e) → has_room (lines_in es) e ≡ true
-        → AreSo (before ++ line ∷ lines) (read_lines lines (n + 1) (with_line (lines_in es) e))
+        → AreSo (before ++ line ∷ lines) (read_lines lines (n + 1) (with_line (lines_in es) e)
+        (files_behind [] es ++ file_in (lines_in es) e))
     go_on others e means room =
         let now : AreRead (before ++ line ∷ []) (es ++ e ∷ []) = record {
           each = each_more before es line e read.each means;
           few = subst AreFew (sym (lines_in-more es e)) (few_more (lines_in es) e read.few room);
         } in
         let rest : AreSo ((before ++ line ∷ []) ++ lines)
-        (read_lines lines (n + 1) (lines_in (es ++ e ∷ []))) =
+        (read_lines lines (n + 1) (lines_in (es ++ e ∷ [])) (files_behind [] (es ++ e ∷ []))) =
         others (before ++ line ∷ []) (es ++ e ∷ []) (n + 1) now
         (omega (arith, is, length-append before (line ∷ []))) in
-        subst (λ ls. AreSo ls (read_lines lines (n + 1) (with_line (lines_in es) e)))
+        let places : List FilePlace = files_behind [] es ++ file_in (lines_in es) e in
+        subst (λ ls. AreSo ls (read_lines lines (n + 1) (with_line (lines_in es) e) places))
         (append_assoc before (line ∷ []) lines)
-        (subst (λ ls. AreSo ((before ++ line ∷ []) ++ lines) (read_lines lines (n + 1) ls))
-        (lines_in-more es e) rest)
+        (subst (λ ls. AreSo ((before ++ line ∷ []) ++ lines) (read_lines lines (n + 1) ls places))
+        (lines_in-more es e)
+        (subst (λ ps. AreSo ((before ++ line ∷ []) ++ lines)
+        (read_lines lines (n + 1) (lines_in (es ++ e ∷ [])) ps)) (files_more [] es e) rest))
 
     by_meaning : ((first : List (List ℕ)) (fs : List LineMeaning) (m : ℕ) → AreRead first fs
         → m ≡ length first
-        → AreSo (first ++ lines) (read_lines lines m (lines_in fs)))
+        → AreSo (first ++ lines) (read_lines lines m (lines_in fs) (files_behind [] fs)))
         → (meaning : Result LineMeaning ConfigKind) → Means line meaning
         → AreSo (before ++ line ∷ lines) (next_lines meaning (n + 1) (lines_in es)
-        (read_lines lines (n + 1)))
+        (files_behind [] es) (read_lines lines (n + 1)))
     by_meaning others (Err kind) means = fault kind (inl means)
     by_meaning others (Ok e) means =
         split (has_room (lines_in es) e)
         (λ t. AreSo (before ++ line ∷ lines) (cond t
-        (read_lines lines (n + 1) (with_line (lines_in es) e)) (Bad (n + 1) k.TooMany)))
+        (read_lines lines (n + 1) (with_line (lines_in es) e)
+        (files_behind [] es ++ file_in (lines_in es) e)) (Bad (n + 1) k.TooMany)))
         (λ room. go_on others e means room)
         (λ full. fault k.TooMany (inr (e, means, full, refl)))
 
@@ -180,17 +197,21 @@ config_right bytes = by_reading (config_of bytes)
     (lines_right (config_lines bytes) [] [] 0 (record { each = tt; few = no_lines_few }) refl)
   where
     by_reading : (reading : Reading) → AreSo (config_lines bytes) reading → IsReading bytes reading
-    by_reading (Good ls) so = record { es = so.0; read = so.1; lines_are = so.2 }
+    by_reading (Good ls places) so = (
+      record { es = so.0; read = so.1; lines_are = so.2 },
+      record { es = so.0; read = so.1; places_are = so.3 },
+    )
     by_reading (Bad n kind) so = so
 
 -- and there is no other
 same_reading : (bytes : List ℕ) (a b : Reading) → IsReading bytes a → IsReading bytes b → a ≡ b
-same_reading bytes (Good ts) (Good us) first second =
-    ap Good (one_reading bytes ts us first second)
-same_reading bytes (Good ts) (Bad n kind) first second =
-    absurd (read_or_fault (config_lines bytes) first.es n kind first.read second)
-same_reading bytes (Bad n kind) (Good ts) first second =
-    absurd (read_or_fault (config_lines bytes) second.es n kind second.read first)
+same_reading bytes (Good ts ps) (Good us qs) first second =
+    ap (λ ls. Good ls ps) (one_reading bytes ts us first.0 second.0)
+    ∙ ap (Good us) (one_order bytes ps qs first.1 second.1)
+same_reading bytes (Good ts ps) (Bad n kind) first second =
+    absurd (read_or_fault (config_lines bytes) first.0.es n kind first.0.read second)
+same_reading bytes (Bad n kind) (Good ts ps) first second =
+    absurd (read_or_fault (config_lines bytes) second.0.es n kind second.0.read first)
 same_reading bytes (Bad m a) (Bad n b) first second =
     let same = one_fault (config_lines bytes) m n a b first second in
     ap (λ x. Bad x a) same.0 ∙ ap (Bad n) same.1
@@ -202,10 +223,10 @@ reading_is bytes reading = (
   (λ is. subst (IsReading bytes) is (config_right bytes)),
 )
 
-pub read_value : (bytes : List ℕ) (lines : ConfigLines) → IsConfiguration bytes lines
-    → config_of bytes ≡ Good lines
-read_value bytes lines read =
-    same_reading bytes (config_of bytes) (Good lines) (config_right bytes) read
+pub read_value : (bytes : List ℕ) (lines : ConfigLines) (places : List FilePlace)
+    → IsConfiguration bytes lines × AreFiles bytes places → config_of bytes ≡ Good lines places
+read_value bytes lines places read =
+    same_reading bytes (config_of bytes) (Good lines places) (config_right bytes) read
 
 pub refusal_value : (bytes : List ℕ) (refusal : ConfigRefusal)
     → RefusesRightly (config_lines bytes) refusal

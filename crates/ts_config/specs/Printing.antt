@@ -1,9 +1,12 @@
 -- How a configuration is printed.
-use Rattle.std.specs.Prelude.{ℕ, Bool, true, List, [], ◌∷◌, ◌++◌, flat_map, if◌then◌else◌}
+use Rattle.std.specs.Prelude.{ℕ, Bool, true, List, [], ◌∷◌, ◌++◌, flat_map, codes, if◌then◌else◌}
 use Rattle.std.specs.Fmt.{decimal}
 use Rattle.std.specs.List.{list_any}
 use Rattle.ts_config.specs.declared.fields.PluginLine.{PluginLine}
-use Rattle.ts_config.specs.declared.fields.PluginLine.TheVariants.{Deny, Header}
+use Rattle.ts_config.specs.declared.fields.PluginLine.TheVariants.{Deny, Header, SessionHeader}
+use Rattle.ts_config.specs.declared.setup.InterceptKind.{InterceptKind}
+use Rattle.ts_config.specs.declared.setup.InterceptKind.TheVariants as i
+use Rattle.ts_config.specs.declared.setup.InterceptLine.{InterceptLine}
 use Rattle.ts_config.specs.declared.setup.TransformLine.{TransformLine}
 use Rattle.ts_config.specs.declared.setup.TransformLine.TheVariants as t
 use Rattle.ts_config.specs.declared.table.PluginName.{PluginName}
@@ -40,6 +43,7 @@ line_name (t.Limit most) = n.Limit
 abbrev pub plugin_name : PluginLine → PluginName
 plugin_name (Deny sites) = n.Deny
 plugin_name (Header side rule) = n.Header
+plugin_name (SessionHeader side rule) = n.SessionHeader
 
 -- the words behind the name
 abbrev pub line_arguments : TransformLine → List (List ℕ)
@@ -68,6 +72,31 @@ printed_line line = named_line (line_name line) (line_arguments line)
 abbrev pub printed_plugin : PluginLine → List ℕ
 printed_plugin line = named_line (plugin_name line) (plugin_words line)
 
--- the transform lines, one behind the other, and then those of hook plugins
+-- the words behind the name of a request line: those of its transform line
+abbrev pub request_words : TransformLine → List (List ℕ)
+request_words line = spelling (line_name line) ∷ line_arguments line
+
+-- a request line
+abbrev pub printed_request : TransformLine → List ℕ
+printed_request line = named_line n.Request (request_words line)
+
+-- the words for what an intercept serves
+abbrev pub kind_words : InterceptKind → List (List ℕ)
+kind_words i.Echo = codes "echo" ∷ []
+kind_words (i.Fill n) = codes "fill" ∷ decimal n ∷ []
+kind_words (i.File file text) = codes "file" ∷ file ∷ []
+
+-- an intercept line
+abbrev pub printed_intercept : InterceptLine → List ℕ
+printed_intercept line = named_line n.Intercept (line.site ∷ kind_words line.kind)
+
+-- a tap line
+abbrev pub printed_tap : ℕ → List ℕ
+printed_tap most = named_line n.Tap (decimal most ∷ [])
+
+-- the lines, kind by kind: transforms, requests, intercepts, hook plugins, and the tap last
 abbrev pub printed : ConfigLines → List ℕ
-printed lines = flat_map printed_line lines.transforms ++ flat_map printed_plugin lines.plugins
+printed lines =
+    (((flat_map printed_line lines.transforms ++ flat_map printed_request lines.requests)
+    ++ flat_map printed_intercept lines.intercepts) ++ flat_map printed_plugin lines.plugins)
+    ++ flat_map printed_tap lines.taps

@@ -8,7 +8,7 @@ use Rattle.http_header.specs.FieldName.{is_field_name}
 use Rattle.http_header.specs.FieldValue.{FieldValue, plain_value}
 use Rattle.http_header.specs.Token.{is_value_byte, lowercase}
 use Rattle.ts_config.specs.declared.fields.PluginLine.{PluginLine}
-use Rattle.ts_config.specs.declared.fields.PluginLine.TheVariants.{Deny, Header}
+use Rattle.ts_config.specs.declared.fields.PluginLine.TheVariants.{Deny, Header, SessionHeader}
 use Rattle.ts_config.specs.declared.fields.Rule.{Rule}
 use Rattle.ts_config.specs.declared.fields.Rule.TheVariants.{Set, Add, Remove}
 use Rattle.ts_config.specs.declared.fields.Side.{Side}
@@ -85,11 +85,18 @@ rule_of (action ∷ name ∷ value ∷ []) = put_rule action name value
 rule_of (action ∷ name ∷ []) = remove_rule action name
 rule_of other = None
 
+-- the side and the rule of these words
+abbrev pub sided_rule : List (List ℕ) → Option (Side × Rule)
+sided_rule [] = None
+sided_rule (side ∷ words) = option_and_then (λ s. option_map (λ r. (s, r)) (rule_of words)) (side_of side)
+
 -- the header line of these words
 abbrev pub header_of : List (List ℕ) → Option PluginLine
-header_of [] = None
-header_of (side ∷ words) =
-    option_and_then (λ s. option_map (λ r. Header s r) (rule_of words)) (side_of side)
+header_of words = option_map (λ both. Header both.0 both.1) (sided_rule words)
+
+-- the session's header line of these words, which are those of a header line
+abbrev pub session_of : List (List ℕ) → Option PluginLine
+session_of words = option_map (λ both. SessionHeader both.0 both.1) (sided_rule words)
 
 -- ---- what every rule that was read keeps to
 
@@ -111,6 +118,7 @@ IsPlainRule (Remove name) = IsRuleName name
 abbrev pub HasPlainRule : PluginLine → Type 0
 HasPlainRule (Deny sites) = ⊤
 HasPlainRule (Header side rule) = IsPlainRule rule
+HasPlainRule (SessionHeader side rule) = IsPlainRule rule
 
 -- ---- the words of a line
 
@@ -124,3 +132,4 @@ rule_words (Remove name) = codes "remove" ∷ name ∷ []
 abbrev pub plugin_words : PluginLine → List (List ℕ)
 plugin_words (Deny sites) = sites
 plugin_words (Header side rule) = side_word side ∷ rule_words rule
+plugin_words (SessionHeader side rule) = side_word side ∷ rule_words rule

@@ -4,13 +4,14 @@ use Rattle.ts_config.specs.declared.setup.ConfigKind.{ConfigKind}
 use Rattle.ts_config.specs.declared.setup.ConfigRefusal.{ConfigRefusal}
 use Rattle.ts_config.specs.declared.setup.ConfigRefusal.TheVariants as c
 use Rattle.ts_config.specs.declared.setup.LineMeaning.{LineMeaning}
+use Rattle.ts_config.specs.declared.setup.Setup.{Setup}
 use Rattle.ts_config.specs.declared.read.LineRefusal.{LineRefusal}
 use Rattle.ts_config.specs.declared.read.LineRefusal.TheVariants as r
 use Rattle.ts_config.specs.declared.words.NextWord.{NextWord}
 use Rattle.ts_config.specs.declared.words.NextWord.TheVariants.{Nothing, Word, Unclosed}
 use Rattle.ts_config.specs.Bytes.{quote_mark}
-use Rattle.ts_config.specs.Reading.{Means, Breaks, with_line}
-use Rattle.ts_config.specs.Setup.{ConfigLines}
+use Rattle.ts_config.specs.Reading.{Means, Breaks, file_in, with_line}
+use Rattle.ts_config.specs.Setup.{ConfigLines, lines_of}
 use Rattle.ts_config.specs.Words.{IsWords, BeginsWithWord, HasNoWord, IsQuotable, EndsWord}
 
 -- a text behind a quote is this word, the second quote and the rest, or it is no such text
@@ -47,11 +48,16 @@ MeansUnlessMemory line (Ok e) = Means line (Ok e)
 MeansUnlessMemory line (Err r.NoMemory) = ⊤
 MeansUnlessMemory line (Err (r.Kind kind)) = Means line (Err kind)
 
+-- a line of this meaning is added to those before it, and its file to theirs
+pub record Adds (e : LineMeaning) (old new : Setup) : Type 0 where
+  pub lines : lines_of new ≡ with_line (lines_of old) e
+  pub files : new.files.items ≡ old.files.items ++ file_in (lines_of old) e
+
 -- a line is added to those before it by what it means
-pub record Adds (line : List ℕ) (old new : ConfigLines) : Type 0 where
+pub record AddsLine (line : List ℕ) (old new : Setup) : Type 0 where
   pub e : LineMeaning
   pub means : Means line (Ok e)
-  pub new_is : new ≡ with_line old e
+  pub adds : Adds e old new
 
 -- the line breaks this rule behind these lines, unless memory lacked
 abbrev pub BreaksUnlessMemory : ConfigLines → List ℕ → LineRefusal → Type 0

@@ -1,19 +1,20 @@
 -- The reading of a configuration as a function of its bytes, for computing. The grammar is Reading.antt; that
 -- the two agree is a law (`one_reading`).
-use Rattle.std.specs.Prelude.{◌≡◌, ℕ, suc, zero, ◌==◌, ◌+◌, not, Bool, List, [], ◌∷◌, length, take, drop, Option, Some, None, Result, Ok, Err, ⊤, if◌then◌else◌}
+use Rattle.std.specs.Prelude.{◌≡◌, ℕ, suc, zero, ◌==◌, ◌+◌, not, Bool, List, [], ◌∷◌, length, ◌++◌, take, drop, Option, Some, None, Result, Ok, Err, ⊤, if◌then◌else◌}
 use Rattle.std.specs.List.{prefix_len}
 use Rattle.std.specs.Option.{option_map}
 use Rattle.ts_config.specs.declared.setup.ConfigKind.{ConfigKind}
 use Rattle.ts_config.specs.declared.setup.ConfigKind.TheVariants as k
+use Rattle.ts_config.specs.declared.setup.FilePlace.{FilePlace}
 use Rattle.ts_config.specs.declared.setup.LineMeaning.{LineMeaning}
 use Rattle.ts_config.specs.declared.setup.ConfigRefusal.{ConfigRefusal}
 use Rattle.ts_config.specs.declared.setup.ConfigRefusal.TheVariants as c
 use Rattle.ts_config.specs.Bytes.{number_sign, quote_mark}
 use Rattle.ts_config.specs.Lines.{config_lines}
 use Rattle.ts_config.specs.Words.{is_blank, is_end}
-use Rattle.ts_config.specs.Setup.{ConfigLines, transforms_alone}
+use Rattle.ts_config.specs.Setup.{ConfigLines, no_lines}
 use Rattle.ts_config.specs.Table.{line_entry}
-use Rattle.ts_config.specs.Reading.{is_text, has_room, with_line, IsConfiguration, IsFault}
+use Rattle.ts_config.specs.Reading.{is_text, file_in, has_room, with_line, AreFiles, IsConfiguration, IsFault}
 
 -- what a line begins with: no word, a word and the rest, or a quote that fits no word
 pub data Front : Type 0 where
@@ -77,35 +78,32 @@ meaning_of_words None = Err k.Quote
 abbrev pub meaning_of : List ℕ → Result LineMeaning ConfigKind
 meaning_of line = if is_text line then meaning_of_words (words_in line) else Err k.Text
 
--- the lines of a configuration, or the number of the first line that is not in the grammar, counted from 1,
--- and the first rule that it breaks
+-- the lines of a configuration with the places of those with a file in the order of the text, or the number
+-- of the first line that is not in the grammar, counted from 1, and the first rule that it breaks
 pub data Reading : Type 0 where
-  Good : ConfigLines → Reading
+  Good : ConfigLines → List FilePlace → Reading
   Bad : ℕ → ConfigKind → Reading
 
 -- the reading that goes on behind a line with this meaning, which is the n-th, counted from 1
-abbrev pub next_lines : Result LineMeaning ConfigKind → ℕ → ConfigLines → (ConfigLines → Reading) → Reading
-next_lines (Err kind) n so_far next = Bad n kind
-next_lines (Ok e) n so_far next =
-    if has_room so_far e then next (with_line so_far e) else Bad n k.TooMany
+abbrev pub next_lines : Result LineMeaning ConfigKind → ℕ → ConfigLines → List FilePlace
+    → (ConfigLines → List FilePlace → Reading) → Reading
+next_lines (Err kind) n so_far places next = Bad n kind
+next_lines (Ok e) n so_far places next =
+    if has_room so_far e then next (with_line so_far e) (places ++ file_in so_far e) else Bad n k.TooMany
 
 -- the reading of lines behind n others, which were these
-abbrev pub read_lines : List (List ℕ) → ℕ → ConfigLines → Reading
-read_lines [] n so_far = Good so_far
-read_lines (line ∷ lines) n so_far =
-    next_lines (meaning_of line) (n + 1) so_far (read_lines lines (n + 1))
-
--- no lines
-abbrev pub no_lines : ConfigLines
-no_lines = transforms_alone []
+abbrev pub read_lines : List (List ℕ) → ℕ → ConfigLines → List FilePlace → Reading
+read_lines [] n so_far places = Good so_far places
+read_lines (line ∷ lines) n so_far places =
+    next_lines (meaning_of line) (n + 1) so_far places (read_lines lines (n + 1))
 
 -- the reading of a configuration
 abbrev pub config_of : List ℕ → Reading
-config_of bytes = read_lines (config_lines bytes) 0 no_lines
+config_of bytes = read_lines (config_lines bytes) 0 no_lines []
 
 -- the reading by the grammar
 abbrev pub IsReading : List ℕ → Reading → Type 0
-IsReading bytes (Good lines) = IsConfiguration bytes lines
+IsReading bytes (Good lines places) = IsConfiguration bytes lines × AreFiles bytes places
 IsReading bytes (Bad n kind) = IsFault (config_lines bytes) n kind
 
 -- a refusal is what was read, and want of memory says nothing

@@ -77,4 +77,6 @@ pub enum PluginLine {
     Deny { sites: Sites },
     /// Changes the fields of requests or of responses.
     Header { side: Side, rule: Rule },
+    /// The same at the hooks of a session: it has no effect without sessions.
+    SessionHeader { side: Side, rule: Rule },
 }

@@ -1,6 +1,7 @@
-//! Laws: every text has exactly one reading; and what lines give of a body before they finish early.
+//! Laws: every text has exactly one reading, and the limits are these; and what lines give of a body before they finish early.
 ghost use Rattle.std.specs.Prelude.{◌≡◌, ℕ, List, ◌↔◌};
 ghost use Rattle.ts_config.specs.Bodies.{TellsSoFar, IsFinalEarly};
+ghost use Rattle.ts_config.specs.Bytes.{AreLimits};
 ghost use Rattle.ts_config.specs.Value.{Reading, IsReading, config_of};
 
 /// Bytes have one reading by the grammar: they are a configuration of some lines and of no others, or have a
@@ -8,6 +9,11 @@ ghost use Rattle.ts_config.specs.Value.{Reading, IsReading, config_of};
 /// nothing.
 pub fn one_reading()
     ensures { (bytes : List ℕ) (reading : Reading) → IsReading bytes reading ↔ (config_of bytes ≡ reading) }
+{}
+
+/// The limits of a configuration. This is a law: the function does nothing.
+pub fn limits()
+    ensures { AreLimits }
 {}
 
 /// What the lines have given of a body that came so far is told line by line: it is `soon_lines` where none of

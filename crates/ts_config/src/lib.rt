@@ -1,9 +1,11 @@
-//! The configuration: one line for each transform of the chain and each hook plugin, as operators write it.
+//! The configuration: one line for each transform, intercept, hook plugin and tap, as operators write it.
 //! Reading gives the value of the grammar or names the first faulty line, and printing gives lines that read
 //! the same.
 #![tactic(auto)]
 
+mod entry;
 mod fields;
+mod filling;
 mod laws;
 mod lines;
 mod numerals;
@@ -15,7 +17,11 @@ mod table;
 mod words;
 
 pub use fields::{PluginLine, Rule, Side, Sites};
-pub use laws::{early_stays, one_reading, tells_so_far};
+pub use laws::{early_stays, limits, one_reading, tells_so_far};
+pub use lines::cut_line;
 pub use print::print_config;
-pub use read::read_config;
-pub use setup::{ConfigFault, ConfigKind, ConfigRefusal, Setup, TransformLine};
+pub use read::{LineRefusal, read_config, read_line};
+pub use setup::{
+    ConfigFault, ConfigKind, ConfigRefusal, FilePlace, InterceptKind, InterceptLine, LineMeaning,
+    Setup, TransformLine,
+};

@@ -1,8 +1,9 @@
 //! A configuration is printed, so that it reads back as the same lines.
-ghost use Rattle.std.specs.Prelude.{◌≡◌, ◌∷◌, ◌++◌, flat_map, OnOk, IfOk};
+ghost use Rattle.std.specs.Prelude.{◌≡◌, ◌∷◌, ◌++◌, flat_map, option_to_list, OnOk, IfOk};
+ghost use Rattle.std.specs.Fmt.{decimal};
 ghost use Rattle.ts_config.specs.Bytes.{space};
 ghost use Rattle.ts_config.specs.Numerals.{byte_word};
-ghost use Rattle.ts_config.specs.Printing.{needs_quotes, spelled, spelled_words, line_arguments, line_name, plugin_name, printed_line, printed_plugin, printed};
+ghost use Rattle.ts_config.specs.Printing.{needs_quotes, spelled, spelled_words, line_arguments, line_name, plugin_name, printed_line, printed_plugin, printed_request, kind_words, printed_intercept, printed_tap, printed};
 ghost use Rattle.ts_config.specs.Reading.{IsConfiguration, ComeFromText};
 ghost use Rattle.ts_config.specs.Rules.{plugin_words, rule_words};
 ghost use Rattle.ts_config.specs.Setup.{lines_of, untexted_lines};
@@ -10,7 +11,7 @@ ghost use Rattle.ts_config.specs.Setup.{lines_of, untexted_lines};
 use crate::fields::{PluginLine, Rule};
 use crate::numerals::hex_digit;
 use crate::rules::side_word;
-use crate::setup::{Setup, TransformLine};
+use crate::setup::{InterceptKind, InterceptLine, Setup, TransformLine};
 use crate::table::PluginName;
 use crate::words::is_end;
 use std::alloc::Global;
@@ -152,6 +153,7 @@ fn plugin_name(line: &PluginLine) -> PluginName
     match line {
         PluginLine::Deny { .. } => PluginName::Deny,
         PluginLine::Header { .. } => PluginName::Header,
+        PluginLine::SessionHeader { .. } => PluginName::SessionHeader,
     }
 }
 
@@ -161,7 +163,7 @@ fn print_plugin_words(out: &mut Vec<u8>, line: &PluginLine) -> Result<(), NoMemo
 {
     match line {
         PluginLine::Deny { sites } => print_sites(out, sites.sites()),
-        PluginLine::Header { side, rule } => {
+        PluginLine::Header { side, rule } | PluginLine::SessionHeader { side, rule } => {
             print_word(out, side_word(*side))?;
             print_rule(out, rule)
         }
@@ -186,8 +188,87 @@ fn print_plugins(out: &mut Vec<u8>, lines: &[PluginLine]) -> Result<(), NoMemory
     Ok(())
 }
 
-/// A configuration of these lines: the transform lines, and then those of hook plugins. The texts of files
-/// are left aside.
+// Prints a number behind one space.
+fn print_number(alloc: Global, out: &mut Vec<u8>, number: u32) -> Result<(), NoMemory>
+    ensures { OnOk result (out.new.items ≡ out.old.items ++ (space ∷ spelled (decimal number))) }
+{
+    let number = number.to_string(alloc)?;
+    print_word(out, number.as_bytes())
+}
+
+fn print_request(alloc: Global, out: &mut Vec<u8>, line: &TransformLine) -> Result<(), NoMemory>
+    ensures { OnOk result (out.new.items ≡ out.old.items ++ printed_request line.now) }
+{
+    out.extend_from_slice(PluginName::Request.spelling())?;
+    print_word(out, line_name(line).spelling())?;
+    print_arguments(alloc, out, line)?;
+    out.push(b'\n')?;
+    Ok(())
+}
+
+fn print_requests(alloc: Global, out: &mut Vec<u8>, lines: &[TransformLine]) -> Result<(), NoMemory>
+    ensures { OnOk result (out.new.items ≡ out.old.items ++ flat_map printed_request lines.now) }
+{
+    for line in lines {
+        print_request(alloc, out, line)?;
+    }
+    Ok(())
+}
+
+// Prints the words for what an intercept serves.
+fn print_kind(alloc: Global, out: &mut Vec<u8>, kind: &InterceptKind) -> Result<(), NoMemory>
+    ensures { OnOk result (out.new.items ≡ out.old.items ++ spelled_words (kind_words kind.now)) }
+{
+    match kind {
+        InterceptKind::Echo => print_word(out, b"echo"),
+        InterceptKind::Fill { n } => {
+            print_word(out, b"fill")?;
+            print_number(alloc, out, *n)
+        }
+        InterceptKind::File { file, .. } => {
+            print_word(out, b"file")?;
+            print_word(out, file.bytes())
+        }
+    }
+}
+
+fn print_intercept(alloc: Global, out: &mut Vec<u8>, line: &InterceptLine) -> Result<(), NoMemory>
+    ensures { OnOk result (out.new.items ≡ out.old.items ++ printed_intercept line.now) }
+{
+    out.extend_from_slice(PluginName::Intercept.spelling())?;
+    print_word(out, line.site.bytes())?;
+    print_kind(alloc, out, &line.kind)?;
+    out.push(b'\n')?;
+    Ok(())
+}
+
+fn print_intercepts(
+    alloc: Global,
+    out: &mut Vec<u8>,
+    lines: &[InterceptLine],
+) -> Result<(), NoMemory>
+    ensures { OnOk result (out.new.items ≡ out.old.items ++ flat_map printed_intercept lines.now) }
+{
+    for line in lines {
+        print_intercept(alloc, out, line)?;
+    }
+    Ok(())
+}
+
+fn print_tap(alloc: Global, out: &mut Vec<u8>, tap: Option<u32>) -> Result<(), NoMemory>
+    ensures { OnOk result (out.new.items ≡ out.old.items ++ flat_map printed_tap (option_to_list tap)) }
+{
+    let Some(most) = tap else {
+        return Ok(());
+    };
+    out.extend_from_slice(PluginName::Tap.spelling())?;
+    print_number(alloc, out, most)?;
+    out.push(b'\n')?;
+    Ok(())
+}
+
+/// A configuration of these lines, kind by kind: the transform lines, the request lines, the intercepts, the
+/// hook plugins and the tap. The texts of files are left aside.
 pub fn print_config(alloc: Global, setup: &Setup) -> Result<Octets, NoMemory>
     requires { ComeFromText (lines_of setup.now) }
     ensures text { IfOk result (λ o. o ≡ printed (lines_of setup.now)) }
@@ -196,6 +277,9 @@ pub fn print_config(alloc: Global, setup: &Setup) -> Result<Octets, NoMemory>
 {
     let mut out = Vec::new(alloc);
     print_lines(alloc, &mut out, setup.transforms.as_slice())?;
+    print_requests(alloc, &mut out, setup.requests.as_slice())?;
+    print_intercepts(alloc, &mut out, setup.intercepts.as_slice())?;
     print_plugins(&mut out, setup.plugins.as_slice())?;
+    print_tap(alloc, &mut out, setup.tap)?;
     Ok(Octets::of_vec(out))
 }

@@ -1,7 +1,7 @@
 //! The words of a hook plugin's line: the sites of a deny list, and the rule of a header line.
 ghost use Rattle.std.specs.Prelude.{◌≡◌, map, IfOk};
 ghost use Rattle.std.specs.List.{list_all};
-ghost use Rattle.ts_config.specs.Rules.{is_site, are_sites, deny_of, side_word, side_of, is_kept_name, rule_name, rule_value, putting, put_rule, remove_rule, rule_of, header_of};
+ghost use Rattle.ts_config.specs.Rules.{is_site, are_sites, deny_of, side_word, side_of, is_kept_name, rule_name, rule_value, putting, put_rule, remove_rule, rule_of, sided_rule, header_of, session_of};
 
 use crate::fields::{PluginLine, Rule, Side, Sites};
 use http_header::{HeaderName, HeaderNameError, HeaderValue, HeaderValueError};
@@ -179,9 +179,9 @@ fn rule_of(alloc: Global, words: &[&[u8]]) -> Result<Option<Rule>, NoMemory>
     }
 }
 
-/// The header line of these words, or nothing where they are none.
-pub fn header_of(alloc: Global, words: &[&[u8]]) -> Result<Option<PluginLine>, NoMemory>
-    ensures { IfOk result (λ o. o ≡ header_of (map (λ w. w.now) words.now)) }
+// The side and the rule of these words, or nothing where they are none.
+fn sided_rule(alloc: Global, words: &[&[u8]]) -> Result<Option<(Side, Rule)>, NoMemory>
+    ensures { IfOk result (λ o. o ≡ sided_rule (map (λ w. w.now) words.now)) }
 {
     let [side, others @ ..] = words else {
         return Ok(None);
@@ -190,7 +190,27 @@ pub fn header_of(alloc: Global, words: &[&[u8]]) -> Result<Option<PluginLine>, N
         return Ok(None);
     };
     match rule_of(alloc, others)? {
-        Some(rule) => Ok(Some(PluginLine::Header { side, rule })),
+        Some(rule) => Ok(Some((side, rule))),
+        None => Ok(None),
+    }
+}
+
+/// The header line of these words, or nothing where they are none.
+pub fn header_of(alloc: Global, words: &[&[u8]]) -> Result<Option<PluginLine>, NoMemory>
+    ensures { IfOk result (λ o. o ≡ header_of (map (λ w. w.now) words.now)) }
+{
+    match sided_rule(alloc, words)? {
+        Some((side, rule)) => Ok(Some(PluginLine::Header { side, rule })),
+        None => Ok(None),
+    }
+}
+
+/// The session's header line of these words, or nothing where they are none.
+pub fn session_of(alloc: Global, words: &[&[u8]]) -> Result<Option<PluginLine>, NoMemory>
+    ensures { IfOk result (λ o. o ≡ session_of (map (λ w. w.now) words.now)) }
+{
+    match sided_rule(alloc, words)? {
+        Some((side, rule)) => Ok(Some(PluginLine::SessionHeader { side, rule })),
         None => Ok(None),
     }
 }

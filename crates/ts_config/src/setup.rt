@@ -1,8 +1,4 @@
 //! What a configuration means as values: its lines, and the fault of one that is not in the grammar.
-ghost use Rattle.std.specs.Prelude.{◌≡◌, map, slice_get, slice_set, IfSome, IsSomeAnd, All};
-ghost use Rattle.ts_config.specs.Reading.{ComeFromText};
-ghost use Rattle.ts_config.specs.Setup.{HasFileName, IsAppend, lines_of, untexted, with_text};
-
 use crate::fields::PluginLine;
 use thiserror::Error;
 use ts_link::Octets;
@@ -29,13 +25,45 @@ pub enum TransformLine {
     Limit { most: u64 },
 }
 
+/// What an intercept serves in place of an origin.
+#[derive(Drop)]
+pub enum InterceptKind {
+    /// The head that the origin would get.
+    Echo,
+    /// `n` bytes `x`, at most 262,144.
+    Fill { n: u32 },
+    /// The text of a file as it is. Reading leaves the text empty.
+    File { file: Octets, text: Octets },
+}
+
+/// An intercept: the host whose requests it serves, as the line has it, and what it serves.
+#[derive(Drop)]
+pub struct InterceptLine {
+    pub site: Octets,
+    pub kind: InterceptKind,
+}
+
 /// What a line of the configuration means.
 #[derive(Drop)]
 pub enum LineMeaning {
     /// A line without a word.
     Empty,
+    /// A transform of responses.
     Transform(TransformLine),
+    /// A transform of the bodies of requests.
+    Request(TransformLine),
+    Intercept(InterceptLine),
     Plugin(PluginLine),
+    /// A tap that counts so many bytes.
+    Tap(u32),
+}
+
+/// A line with a file: its place among the lines of its kind, counted from 0.
+#[derive(Clone, Copy)]
+pub enum FilePlace {
+    Transform(usize),
+    Request(usize),
+    Intercept(usize),
 }
 
 /// The rules of a line, in the order in which they are tried.
@@ -49,7 +77,8 @@ pub enum ConfigKind {
     Plugin,
     /// The other words fit the plugin.
     Arguments,
-    /// It is at most the 16th transform line, or at most the 64th line of a hook plugin.
+    /// It is at most the 16th transform line or request line, at most the 64th intercept line or line of a
+    /// hook plugin, and at most the first tap line.
     TooMany,
 }
 
@@ -69,29 +98,17 @@ pub enum ConfigRefusal {
     NoMemory,
 }
 
-/// A whole configuration: the transform lines and the hook plugin lines, each in the order of the text.
+/// A whole configuration: its lines, each kind in the order of the text.
 #[derive(Drop)]
 pub struct Setup {
+    /// The transforms of responses.
     pub transforms: Vec<TransformLine>,
+    /// The transforms of the bodies of requests.
+    pub requests: Vec<TransformLine>,
+    pub intercepts: Vec<InterceptLine>,
     pub plugins: Vec<PluginLine>,
-}
-
-impl Setup {
-    /// Gives the append line at this place, counted from 0, the text of its file.
-    pub fn fill(&mut self, line: usize, text: Octets)
-        requires { IsSomeAnd (slice_get self.old.transforms.items line) IsAppend }
-        ensures filled { IfSome (slice_get self.old.transforms.items line)
-            (λ l. self.new.transforms.items ≡ slice_set self.old.transforms.items line (with_text text l)) }
-        // But for the texts of the files the lines are the same.
-        ensures lines { map untexted self.new.transforms.items ≡ map untexted self.old.transforms.items }
-        ensures printable { ComeFromText (lines_of self.old) → ComeFromText (lines_of self.new) }
-        ensures names { All HasFileName self.old.transforms.items
-            → All HasFileName self.new.transforms.items }
-        ensures plugins { self.new.plugins ≡ self.old.plugins }
-    {
-        match &mut self.transforms[line] {
-            TransformLine::Append { text: held, .. } => *held = text,
-            _ => unreachable!(),
-        }
-    }
+    /// The most bytes that the tap counts, if there is one.
+    pub tap: Option<u32>,
+    /// The lines with a file, in the order of the text.
+    pub files: Vec<FilePlace>,
 }

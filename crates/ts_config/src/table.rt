@@ -1,14 +1,10 @@
-//! The table of plugins: the first word of a line, and what the words behind it mean.
+//! The table of plugins: the first word of a line, and the transform that the words behind it ask for.
 ghost use Rattle.std.specs.Prelude.{◌≡◌, ◌==◌, ℕ, List, length, map, Option, IfOk, if◌then◌else◌};
-ghost use Rattle.ts_config.specs.Scanning.{AnswersAsRead};
-ghost use Rattle.ts_config.specs.Table.{spelling, all_names, name_of, transform_of, plugin_of, line_entry};
+ghost use Rattle.ts_config.specs.Table.{spelling, all_names, name_of, transform_of};
 ghost use Rattle.ts_config.specs.declared.table.PluginName.TheVariants as n;
 
-use crate::fields::PluginLine;
 use crate::numerals::{byte_of, number_of};
-use crate::read::LineRefusal;
-use crate::rules::{deny_of, header_of};
-use crate::setup::{ConfigKind, LineMeaning, TransformLine};
+use crate::setup::TransformLine;
 use std::alloc::Global;
 use ts_link::{NoMemory, Octets};
 
@@ -23,11 +19,15 @@ pub enum PluginName {
     Drop,
     Delay,
     Limit,
+    Request,
+    Intercept,
+    Tap,
     Deny,
     Header,
+    SessionHeader,
 }
 
-const ALL_NAMES: [PluginName; 10] = [
+const ALL_NAMES: [PluginName; 14] = [
     PluginName::Null,
     PluginName::Append,
     PluginName::Bnull,
@@ -36,11 +36,16 @@ const ALL_NAMES: [PluginName; 10] = [
     PluginName::Drop,
     PluginName::Delay,
     PluginName::Limit,
+    PluginName::Request,
+    PluginName::Intercept,
+    PluginName::Tap,
     PluginName::Deny,
     PluginName::Header,
+    PluginName::SessionHeader,
 ];
 
-// All plugins: those of transform lines, and those that are called at hooks.
+// All plugins: those of transform lines, those of other lines that are no hook plugin's, and those that are
+// called at hooks.
 fn all_names() -> &'static [PluginName]
     ensures { result.now ≡ all_names }
 {
@@ -70,14 +75,18 @@ impl PluginName {
             PluginName::Drop => b"drop.so",
             PluginName::Delay => b"delay.so",
             PluginName::Limit => b"limit.so",
+            PluginName::Request => b"request.so",
+            PluginName::Intercept => b"intercept.so",
+            PluginName::Tap => b"tap.so",
             PluginName::Deny => b"denylist.so",
             PluginName::Header => b"header.so",
+            PluginName::SessionHeader => b"session.so",
         }
     }
 }
 
-// The plugin that the word names.
-fn name_of(word: &[u8]) -> Option<PluginName>
+/// The plugin that the word names.
+pub fn name_of(word: &[u8]) -> Option<PluginName>
     ensures { result ≡ name_of word.now }
 {
     let names = all_names();
@@ -176,8 +185,8 @@ fn limit_of(words: &[&[u8]]) -> Option<TransformLine>
     }
 }
 
-// The line that a name and the words behind it ask for, or nothing where they do not fit.
-fn transform_of(
+/// The transform that a name and the words behind it ask for, or nothing where they do not fit.
+pub fn transform_of(
     alloc: Global,
     name: PluginName,
     words: &[&[u8]],
@@ -193,47 +202,11 @@ fn transform_of(
         PluginName::Drop => Ok(drop_of(words)),
         PluginName::Delay => Ok(delay_of(words)),
         PluginName::Limit => Ok(limit_of(words)),
-        PluginName::Deny | PluginName::Header => Ok(None),
-    }
-}
-
-// The hook plugin that a name and the words behind it ask for, or nothing where they do not fit.
-fn plugin_of(
-    alloc: Global,
-    name: PluginName,
-    words: &[&[u8]],
-) -> Result<Option<PluginLine>, NoMemory>
-    ensures { IfOk result (λ o. o ≡ plugin_of name (map (λ w. w.now) words.now)) }
-{
-    match name {
-        PluginName::Deny => deny_of(alloc, words),
-        PluginName::Header => header_of(alloc, words),
-        PluginName::Null
-        | PluginName::Append
-        | PluginName::Bnull
-        | PluginName::Prepend
-        | PluginName::Map
-        | PluginName::Drop
-        | PluginName::Delay
-        | PluginName::Limit => Ok(None),
-    }
-}
-
-/// What the words of a line mean, or the first rule that they break.
-pub fn entry_of(alloc: Global, words: &[&[u8]]) -> Result<LineMeaning, LineRefusal>
-    ensures { AnswersAsRead result (line_entry (map (λ w. w.now) words.now)) }
-{
-    let [first, others @ ..] = words else {
-        return Ok(LineMeaning::Empty);
-    };
-    let Some(name) = name_of(first) else {
-        return Err(LineRefusal::Kind(ConfigKind::Plugin));
-    };
-    if let Some(line) = transform_of(alloc, name, others)? {
-        return Ok(LineMeaning::Transform(line));
-    }
-    match plugin_of(alloc, name, others)? {
-        Some(line) => Ok(LineMeaning::Plugin(line)),
-        None => Err(LineRefusal::Kind(ConfigKind::Arguments)),
+        PluginName::Request
+        | PluginName::Intercept
+        | PluginName::Tap
+        | PluginName::Deny
+        | PluginName::Header
+        | PluginName::SessionHeader => Ok(None),
     }
 }

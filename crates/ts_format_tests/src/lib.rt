@@ -1,13 +1,9 @@
-//! Tests of what operators write and read: configurations, what their transforms make of bodies, recordings,
-//! and reports on them.
+//! Tests of what operators write and read that no row of `ts_format_rows` states: texts of the greatest length,
+//! what a recording tells, the blocks of a report, recorded sides as links, and what transforms write in time.
 #![tactic(auto)]
 
 #[cfg(test)]
 mod configurations;
-#[cfg(test)]
-mod generated;
-#[cfg(test)]
-mod plugin_lines;
 #[cfg(test)]
 mod recordings;
 #[cfg(test)]

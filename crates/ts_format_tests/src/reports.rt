@@ -19,9 +19,11 @@ fn exchange(alloc: Global, end: TxnEnd) -> Result<ReportBlock, NoMemory>
         b"HTTP/1.1 200 OK\r\nvia: 1.1 tsx\r\ntransfer-encoding: chunked\r\nconnection: close\r\n\r\n";
     Ok(ReportBlock {
         request: Octets::copy_of(alloc, request)?,
+        upload: None,
         end,
         head: Octets::copy_of(alloc, head)?,
         content: Octets::copy_of(alloc, b"<abc")?,
+        tap: None,
     })
 }
 
@@ -69,9 +71,11 @@ fn silent(alloc: Global) -> ReportBlock
 {
     ReportBlock {
         request: Octets::of_vec(Vec::new(alloc)),
+        upload: None,
         end: TxnEnd::Whole,
         head: Octets::of_vec(Vec::new(alloc)),
         content: Octets::of_vec(Vec::new(alloc)),
+        tap: None,
     }
 }
 

@@ -1,7 +1,7 @@
 //! The two sides of a recorded transaction as links.
 use std::alloc::Global;
 use std::test::Fail;
-use ts_link::{Got, Link, NoMemory, Octets, Piece, Put};
+use ts_link::{Got, Link, NoMemory, Octets, Piece, Put, Sourced};
 use ts_record::RecordedLink;
 use ts_upstream::{Uploaded, Upstream};
 

@@ -1,4 +1,4 @@
-//! Rows of lines over short and long bodies, and what each line has written in time.
+//! Long bodies through lines, and what each line has written in time.
 ghost use Rattle.std.specs.Prelude.{◌≡◌, ◌≤◌, false, IfOk};
 ghost use Rattle.ts_transform.specs.declared.transform.TheConstants.{MOST_FED};
 
@@ -11,16 +11,19 @@ use ts_link::{NoMemory, Octets};
 use ts_stock::Stock;
 use ts_transform::{Chain, MOST_FED, Transform};
 
-/// The lines of a configuration, where each of their files holds the text.
-fn filled(alloc: Global, config: &[u8], text: &[u8]) -> Result<Setup, Fail> {
+/// Why a test has no outcome.
+const MEMORY: &str = "memory lacks";
+
+/// The lines of a configuration, where each of their files holds `>`.
+fn filled(alloc: Global, config: &[u8]) -> Result<Setup, Fail> {
     let mut setup = read_config(alloc, config)?;
-    fill_all(alloc, &mut setup, text)?;
+    fill_all(alloc, &mut setup)?;
     Ok(setup)
 }
 
-fn fill_all(alloc: Global, setup: &mut Setup, text: &[u8]) -> Result<(), NoMemory> {
+fn fill_all(alloc: Global, setup: &mut Setup) -> Result<(), NoMemory> {
     for k in 0..setup.transforms.len() {
-        let text = Octets::copy_of(alloc, text)?;
+        let text = Octets::copy_of(alloc, b">")?;
         if let Some(TransformLine::Append { .. }) = setup.transforms.get(k) {
             setup.fill(k, text);
         }
@@ -40,47 +43,45 @@ fn chain_of(alloc: Global, lines: &[TransformLine]) -> Result<Chain<Stock>, NoMe
 }
 
 /// Lets each stage work once.
-fn pump_each(chain: &mut Chain<Stock>) -> Result<(), NoMemory> {
+fn pump_each(rt: &impl Abort, chain: &mut Chain<Stock>) {
     for stage in 0..chain.stages() {
         if stage < chain.stages() {
-            chain.pump(stage)?;
+            chain.pump(stage).expect(rt, MEMORY);
         }
     }
-    Ok(())
 }
 
 /// Takes the first bytes that wait for the client.
-fn take_block(chain: &mut Chain<Stock>, out: &mut Vec<u8>) -> Result<(), NoMemory> {
+fn take_block(rt: &impl Abort, chain: &mut Chain<Stock>, out: &mut Vec<u8>) {
     if let Some(block) = chain.out_block() {
         let count = block.len();
-        out.extend_from_slice(block)?;
+        out.extend_from_slice(block).expect(rt, MEMORY);
         chain.take(count);
     }
-    Ok(())
 }
 
-/// All that the client gets.
-fn drained(alloc: Global, chain: &mut Chain<Stock>) -> Result<Vec<u8>, NoMemory> {
-    let mut out = Vec::new(alloc);
+/// Adds all that the client gets.
+fn drain(rt: &impl Abort, chain: &mut Chain<Stock>, out: &mut Vec<u8>) {
     for _ in 0..1000 {
-        pump_each(chain)?;
-        take_block(chain, &mut out)?;
+        pump_each(rt, chain);
+        take_block(rt, chain, out);
         if chain.is_finished() {
-            break;
+            return;
         }
     }
-    Ok(out)
 }
 
 /// What the lines make of a body.
-fn outcome(alloc: Global, lines: &[TransformLine], body: &[u8]) -> Result<Vec<u8>, NoMemory> {
-    let mut chain = chain_of(alloc, lines)?;
-    chain.give(body)?;
+fn outcome(rt: &impl Abort, alloc: Global, lines: &[TransformLine], body: &[u8]) -> Vec<u8> {
+    let mut out = Vec::new(alloc);
+    let mut chain = chain_of(alloc, lines).expect(rt, MEMORY);
+    chain.give(body).expect(rt, MEMORY);
     chain.give_end();
-    drained(alloc, &mut chain)
+    drain(rt, &mut chain, &mut out);
+    out
 }
 
-/// Holds what the lines of a configuration make of a body against the wanted bytes.
+/// Holds what a line of a configuration makes of a body against the wanted bytes.
 fn check(
     rt: &impl Abort,
     alloc: Global,
@@ -88,85 +89,14 @@ fn check(
     body: &[u8],
     want: &[u8],
 ) -> Result<(), Fail> {
-    let setup = filled(alloc, config, b">")?;
-    check_lines(rt, alloc, setup.transforms.as_slice(), body, want)
-}
-
-fn check_lines(
-    rt: &impl Abort,
-    alloc: Global,
-    lines: &[TransformLine],
-    body: &[u8],
-    want: &[u8],
-) -> Result<(), Fail> {
-    let out = outcome(alloc, lines, body)?;
+    let setup = filled(alloc, config)?;
+    let out = outcome(rt, alloc, setup.transforms.as_slice(), body);
     assert_eq!(rt; out.as_slice(), want);
     Ok(())
 }
 
-/// Configurations whose files hold `>`, a body, and what is made of it.
-const ROWS: [(&[u8], &[u8], &[u8]); 25] = [
-    (
-        b"prepend.so <\nappend_transform.so g\nbnull_transform.so",
-        b"a",
-        b"<a>",
-    ),
-    (
-        b"append_transform.so g\nprepend.so <\nbnull_transform.so",
-        b"a",
-        b"<a>",
-    ),
-    (
-        b"prepend.so <\nappend_transform.so g\nbnull_transform.so\nmap.so > ]",
-        b"a",
-        b"<a]",
-    ),
-    (
-        b"map.so > ]\nprepend.so <\nappend_transform.so g\nbnull_transform.so",
-        b"a",
-        b"<a>",
-    ),
-    (b"null_transform.so\nappend_transform.so g", b"", b">"),
-    (b"prepend.so <", b"", b"<"),
-    (b"prepend.so \"\"", b"", b""),
-    (b"bnull_transform.so", b"", b""),
-    (b"", b"a", b"a"),
-    (b"drop.so q", b"qaqqbq", b"ab"),
-    (b"drop.so q", b"qq", b""),
-    (
-        b"drop.so q",
-        b"0123456789abcdefghijqq0123456789abcdefghijq",
-        b"0123456789abcdefghij0123456789abcdefghij",
-    ),
-    (b"map.so 0x0a 0x20", b"a\nb\n", b"a b "),
-    (b"delay.so 60000\nnull_transform.so", b"abc", b"abc"),
-    (b"map.so a b\nmap.so b c\ndrop.so c", b"abcd", b"d"),
-    (b"limit.so 2", b"abc", b"ab"),
-    (b"limit.so 0", b"abc", b""),
-    (b"limit.so 3", b"abc", b"abc"),
-    (b"limit.so 9223372036854775807", b"abc", b"abc"),
-    (b"limit.so 2", b"", b""),
-    (b"limit.so 2\nappend_transform.so g", b"abc", b"ab>"),
-    (b"append_transform.so g\nlimit.so 4", b"abc", b"abc>"),
-    (b"append_transform.so g\nlimit.so 3", b"abc", b"abc"),
-    (
-        b"prepend.so <\nlimit.so 2\nbnull_transform.so\nlimit.so 5\nprepend.so <",
-        b"abc",
-        b"<<a",
-    ),
-    (b"drop.so a\nlimit.so 2\ndrop.so b", b"abc", b"c"),
-];
-
 /// How often a long body has a `q` in place of an `x`, and how many bytes it has.
 const LONG: [(u32, u32); 4] = [(1, 65_537), (3, 65_537), (63, 65_537), (64, 64)];
-
-#[test]
-fn chains_give_the_rows(rt: HostRuntime) -> Result<(), Fail> {
-    for (config, body, want) in ROWS {
-        check(&rt, rt.alloc(), config, body, want)?;
-    }
-    Ok(())
-}
 
 #[test]
 fn chains_give_long_bodies(rt: HostRuntime) -> Result<(), Fail> {
@@ -249,9 +179,9 @@ const IN_TIME: [(&[u8], &[u8], &[u8], u64); 11] = [
 #[test]
 fn writes_in_time(rt: HostRuntime) -> Result<(), Fail> {
     for (config, fed, ended, pause) in IN_TIME {
-        let setup = filled(rt.alloc(), config, b">")?;
+        let setup = filled(rt.alloc(), config)?;
         match setup.transforms.first() {
-            Some(line) => check_in_time(&rt, rt.alloc(), line, fed, ended, pause)?,
+            Some(line) => check_in_time(&rt, rt.alloc(), line, fed, ended, pause),
             None => return Err(Fail::from("no line")),
         }
     }
@@ -265,28 +195,21 @@ fn check_in_time(
     fed: &[u8],
     ended: &[u8],
     pause: u64,
-) -> Result<(), Fail> {
-    let mut stock = Stock::fresh(alloc, line)?;
+) {
+    let mut stock = Stock::fresh(alloc, line).expect(rt, MEMORY);
     assert_eq!(rt; stock.pause(), pause);
-    let mut out = Waiting::new(alloc)?;
+    let mut out = Waiting::new(alloc).expect(rt, MEMORY);
     for byte in BODY {
-        assert_eq!(rt; stock.feed(&[*byte], &mut out.buffer)?, 1);
+        assert_eq!(rt; stock.feed(&[*byte], &mut out.buffer), Ok(1));
     }
-    check_end(rt, &mut stock, &mut out, fed, ended)
+    check_end(rt, &mut stock, &mut out, fed, ended);
 }
 
 /// Holds what a transform has written by now, and what once it is ended, against the wanted bytes.
-fn check_end(
-    rt: &impl Abort,
-    stock: &mut Stock,
-    out: &mut Waiting,
-    fed: &[u8],
-    ended: &[u8],
-) -> Result<(), Fail> {
+fn check_end(rt: &impl Abort, stock: &mut Stock, out: &mut Waiting, fed: &[u8], ended: &[u8]) {
     assert!(rt; holds(out, fed));
-    stock.end(&mut out.buffer)?;
+    stock.end(&mut out.buffer).expect(rt, MEMORY);
     assert!(rt; holds(out, ended));
-    Ok(())
 }
 
 /// Whether these bytes wait, however many blocks they stand in.
@@ -307,79 +230,70 @@ fn holds(out: &Waiting, bytes: &[u8]) -> bool {
 #[test]
 fn writes_the_same_from_a_buffer(rt: HostRuntime) -> Result<(), Fail> {
     for (config, fed, ended, _) in IN_TIME {
-        let setup = filled(rt.alloc(), config, b">")?;
+        let setup = filled(rt.alloc(), config)?;
         match setup.transforms.first() {
-            Some(line) => check_all_from(&rt, rt.alloc(), line, fed, ended)?,
+            Some(line) => check_all_from(&rt, rt.alloc(), line, fed, ended),
             None => return Err(Fail::from("no line")),
         }
     }
     Ok(())
 }
 
-/// Feeds a line from a buffer with a byte at once, with two, and with as many as may be.
-fn check_all_from(
-    rt: &impl Abort,
-    alloc: Global,
-    line: &TransformLine,
-    fed: &[u8],
-    ended: &[u8],
-) -> Result<(), Fail> {
-    check_from(rt, alloc, line, 1, fed, ended)?;
-    check_from(rt, alloc, line, 2, fed, ended)?;
-    check_from(rt, alloc, line, MOST_FED, fed, ended)
+/// Feeds a line from a buffer with a byte at once, with two, and with as many as may be, with the body cut at
+/// each place.
+fn check_all_from(rt: &impl Abort, alloc: Global, line: &TransformLine, fed: &[u8], ended: &[u8]) {
+    for cut in 0..BODY.len() + 1 {
+        check_from(rt, alloc, line, cut, 1, fed, ended);
+        check_from(rt, alloc, line, cut, 2, fed, ended);
+        check_from(rt, alloc, line, cut, MOST_FED, fed, ended);
+    }
 }
 
-/// Feeds a line from a buffer with so many bytes at once, with the body cut at each place.
+/// Feeds a line from a buffer with so many bytes at once, with the body cut at this place.
 fn check_from(
     rt: &impl Abort,
     alloc: Global,
     line: &TransformLine,
+    cut: usize,
     most: usize,
     fed: &[u8],
     ended: &[u8],
-) -> Result<(), Fail>
+)
     requires { (1 ≤ most) × (most ≤ MOST_FED) }
 {
-    for cut in 0..BODY.len() + 1 {
-        let mut stock = Stock::fresh(alloc, line)?;
-        let mut out = Waiting::new(alloc)?;
-        let mut input = cut_body(alloc, cut)?;
-        feed_all(&mut stock, &mut input, most, &mut out)?;
-        assert!(rt; input.is_empty());
-        check_end(rt, &mut stock, &mut out, fed, ended)?;
-    }
-    Ok(())
+    let mut stock = Stock::fresh(alloc, line).expect(rt, MEMORY);
+    let mut out = Waiting::new(alloc).expect(rt, MEMORY);
+    let mut input = cut_body(rt, alloc, cut);
+    feed_all(rt, &mut stock, &mut input, most, &mut out);
+    assert!(rt; input.is_empty());
+    check_end(rt, &mut stock, &mut out, fed, ended);
 }
 
 /// The body in two pieces, each copied from another buffer, so that blocks are shared where they can be.
-fn cut_body(alloc: Global, cut: usize) -> Result<Waiting, NoMemory> {
-    let mut source = Waiting::new(alloc)?;
-    source.write(BODY)?;
-    let mut input = Waiting::new(alloc)?;
+fn cut_body(rt: &impl Abort, alloc: Global, cut: usize) -> Waiting {
+    let mut source = Waiting::new(alloc).expect(rt, MEMORY);
+    source.write(BODY).expect(rt, MEMORY);
+    let mut input = Waiting::new(alloc).expect(rt, MEMORY);
+    for (most, skipped) in [(cut, 0), (BODY.len(), cut)] {
+        input
+            .buffer
+            .copy_from(&source.buffer, source.reader, most, skipped)
+            .expect(rt, MEMORY);
+    }
     input
-        .buffer
-        .copy_from(&source.buffer, source.reader, cut, 0)?;
-    input
-        .buffer
-        .copy_from(&source.buffer, source.reader, BODY.len(), cut)?;
-    Ok(input)
 }
 
 /// Feeds a transform with all that waits, so many bytes at once.
-fn feed_all(
-    stock: &mut Stock,
-    input: &mut Waiting,
-    most: usize,
-    out: &mut Waiting,
-) -> Result<(), NoMemory>
+fn feed_all(rt: &impl Abort, stock: &mut Stock, input: &mut Waiting, most: usize, out: &mut Waiting)
     requires { (1 ≤ most) × (most ≤ MOST_FED) }
 {
     for _ in 0..input.len() {
         if input.is_empty() {
-            break;
+            return;
         }
-        let taken = stock.feed_from(&input.buffer, input.reader, most, &mut out.buffer)?;
+        let taken = stock
+            .feed_from(&input.buffer, input.reader, most, &mut out.buffer)
+            .expect(rt, MEMORY);
         input.take(taken);
     }
-    Ok(())
 }

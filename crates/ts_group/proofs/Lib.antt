@@ -4,6 +4,7 @@ pub mod Facts
 pub mod Acts
 pub mod Grows
 pub mod Scans
+pub mod Late
 pub mod Roles
 pub mod Drops
 pub mod First

@@ -1,5 +1,5 @@
 -- The entries that calls append to a journal.
-use Rattle.std.specs.Prelude.{⊤, ◌≡◌, ℕ, ◌+◌, ◌<◌, ◌≤◌, ◌&&◌, ◌⊎◌, true, List, [], ◌∷◌, ◌++◌, if◌then◌else◌, nat_lt}
+use Rattle.std.specs.Prelude.{⊤, ◌≡◌, ℕ, ◌+◌, ◌<◌, ◌≤◌, ◌&&◌, ◌⊎◌, true, List, [], ◌∷◌, ◌++◌, if◌then◌else◌, nat_lt, Some}
 use Rattle.ts_journal.specs.declared.entry.TheConstants.{GREATEST}
 use Rattle.ts_journal.specs.declared.entry.ContKey.{ContKey}
 use Rattle.ts_journal.specs.declared.entry.Event.{Event}
@@ -7,7 +7,7 @@ use Rattle.ts_journal.specs.declared.entry.Event.TheVariants.{Timeout, Hook}
 use Rattle.ts_journal.specs.declared.entry.Pending.{Pending}
 use Rattle.ts_journal.specs.declared.entry.Entry.{Entry}
 use Rattle.ts_journal.specs.declared.entry.Entry.TheVariants.{Took, Gave, Set, Handled, Dropped}
-use Rattle.ts_journal.specs.State.{State, IsLive}
+use Rattle.ts_journal.specs.State.{State, IsLive, pending_at}
 use Rattle.ts_journal.specs.Log.{Log, Extends}
 use Rattle.ts_group.specs.Context.{Context, needed, own_key}
 use Rattle.ts_link.specs.Moments.{moment_after}
@@ -86,6 +86,13 @@ pub record CanSet (log : Log) (event : Pending) : Type 0 where
   pub series : event.series ≡ event.number
   pub room : needed log.state + 2 ≤ log.room
   pub set_room : 0 < log.set_room
+
+-- the event of the number can be cancelled: a turn is held, and it is pending
+pub record CanCancel (log : Log) (number : ℕ) : Type 0 where
+  pub turn : log.state.held ≡ true
+  pub event : Pending
+  pub there : pending_at number log.state.pending ≡ Some event
+  pub room : needed log.state ≤ log.room
 
 -- A question can be entered: a turn is held, the group's own key is live, and there is a number left for its
 -- event.

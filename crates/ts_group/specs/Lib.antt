@@ -3,6 +3,8 @@ pub mod Context
 pub mod Entries
 pub mod Changes
 pub mod Acts
+pub mod Late
+pub mod Limits
 pub mod Alone
 pub mod Calls
 pub mod Due

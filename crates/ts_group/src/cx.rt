@@ -9,12 +9,14 @@ ghost use Rattle.ts_link.specs.Moments.{moment_after};
 ghost use Rattle.ts_group.specs.Entries.{Grows, CanBeAsked};
 ghost use Rattle.ts_group.specs.Acts.{Sets, Queues, Cancels, Makes, Destroys, BeginsTurn, GivesTurn, KeepsRoles, RunsNow, AsksOwn, EntersEvent, EntersQuestion};
 ghost use Rattle.ts_group.specs.Calls.{IsReady, next_in};
+ghost use Rattle.ts_group.specs.Late.{Hastens};
 ghost use Rattle.ts_group.specs.Due.{IsFirstDue, IsNews, NoNews};
 
 use crate::action::{Action, Cancel, Destroy, MakeFault, Named, SetFault};
 use crate::calls::{call_event, first_call};
 use crate::due::{first_due, first_news};
 use crate::events::{cancel_series, enter_event, enter_question, is_series_done, set_event};
+use crate::hasten::hasten_event;
 use crate::keys::{OWN_KEY, destroy_key, make_key, role_of};
 use crate::reserve::spare;
 use crate::turns::{begin_turn, give_turn};
@@ -156,6 +158,18 @@ impl Cx {
         ensures grows { Grows self.old self.new }
     {
         cancel_series(&mut self.journal, action.series)
+    }
+
+    /// Brings the first event of a key forward that is a plain `Timeout` and due later than the moment: sets an
+    /// `Immediate` of the key in its place. Answers whether there was one.
+    pub fn hasten(&mut self, key: ContKey) -> Result<bool, SetFault>
+        requires turn { self.old.log.state.held ≡ true }
+        ensures hastens { Hastens self.old.log self.new.log key self.old.moment result }
+        ensures roles { self.new.roles ≡ self.old.roles }
+        ensures calls { self.new.calls ≡ self.old.calls }
+        ensures grows { Grows self.old self.new }
+    {
+        hasten_event(&mut self.journal, key, self.moment)
     }
 
     /// Whether an action's series has no pending event.

@@ -10,6 +10,7 @@ ghost use Rattle.ts_group.specs.Answers.{IsAnswered, Hears, KeepsPromises, SetsA
 ghost use Rattle.ts_group.specs.Either.{either_of, OfBoth, EitherFits, tag_of, EitherSound, EitherAsking, EitherRight, EitherMayAsk, EitherAnswers, either_left, EitherCalled, EitherHeard, by_kind, same_by_kind, rests_by_kind};
 
 use crate::cx::Cx;
+use crate::rouse::Rouse;
 use crate::world::{Asked, MOST_SET, Want, World};
 use ts_journal::{Event, Slotted};
 
@@ -141,4 +142,15 @@ impl<A: World + Drop, B: World<Question = A::Question, Reply = A::Reply> + Drop>
     ghost rests = { λ t w s roles fits holds. rests_by_kind A.fits B.fits
         (λ a. A.sound a s roles) (λ b. B.sound b s roles) A.only_asked B.only_asked (IsLive s.live own_key)
         (λ t a. A.rests t a s roles) (λ t b. B.rests t b s roles) t w fits holds };
+}
+
+/// The events of its kind are brought forward.
+impl<A: Rouse + Drop, B: Rouse<Question = A::Question, Reply = A::Reply> + Drop> Rouse
+    for Either<A, B> {
+    fn rouse(&mut self, cx: &mut Cx) {
+        match self {
+            Either::One(one) => one.rouse(cx),
+            Either::Other(other) => other.rouse(cx),
+        }
+    }
 }

@@ -1,12 +1,13 @@
 //! Events in a journal: how one is set, cancelled and handled.
 
 ghost use Rattle.std.specs.Prelude.{◌≡◌, ◌↔◌, true, [], ◌∷◌, None, IsTrue, OnOk, OnErr};
+ghost use Rattle.ts_journal.specs.declared.entry.Entry.TheVariants as Entry;
 ghost use Rattle.ts_journal.specs.State.{first_in_series};
 ghost use Rattle.ts_journal.specs.Log.{Extends, IsSameLog};
 ghost use Rattle.ts_journal.specs.Tables.{entry_of};
 ghost use Rattle.ts_group.specs.Context.{HasNeeded};
-ghost use Rattle.ts_group.specs.Entries.{GrowsLog, CanSet, CanBeAsked};
-ghost use Rattle.ts_group.specs.Changes.{CallsStay, HasSet};
+ghost use Rattle.ts_group.specs.Entries.{GrowsLog, CanSet, CanCancel, CanBeAsked};
+ghost use Rattle.ts_group.specs.Changes.{CallsStay, HasClosed, HasSet};
 ghost use Rattle.ts_group.specs.Acts.{Sets, Cancels, EntersEvent, EntersQuestion};
 ghost use Rattle.ts_group.specs.Calls.{IsReady};
 
@@ -97,6 +98,19 @@ pub fn is_series_done(journal: &Journal, series: u64) -> bool
     number_of(journal.pending(), series).is_none()
 }
 
+/// Enters that the pending event of a number is cancelled.
+pub fn cancel_event(journal: &mut Journal, number: u64)
+    requires can { CanCancel journal.old number }
+    ensures log { Extends journal.old journal.new (Entry.Cancelled number ∷ []) }
+    ensures closed { HasClosed journal.old.state journal.new.state number }
+    ensures turn { journal.new.state.held ≡ true }
+    ensures room { HasNeeded journal.new }
+    ensures stay { CallsStay journal.old.state journal.new.state }
+{
+    journal.known();
+    journal.push(Entry::Cancelled { number });
+}
+
 /// Cancels the pending event of a series.
 pub fn cancel_series(journal: &mut Journal, series: u64) -> Cancel
     requires turn { journal.old.state.held ≡ true }
@@ -109,7 +123,7 @@ pub fn cancel_series(journal: &mut Journal, series: u64) -> Cancel
     journal.known();
     match number_of(journal.pending(), series) {
         Some(number) => {
-            journal.push(Entry::Cancelled { number });
+            cancel_event(journal, number);
             Cancel::Cancelled
         }
         None => Cancel::Done,

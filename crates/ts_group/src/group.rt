@@ -10,6 +10,7 @@ ghost use Rattle.ts_group.specs.Due.{IsDueFirst, IsFirstNews, NoNews};
 ghost use Rattle.ts_group.specs.Answers.{Holds, AwaitsReply, MayAwait, MatchWant, MatchHandling, IfEvents, IsAnswered, IsSameGroup, HandleGives, LacksRenewal, HasReplied, LeavesLess, Hears, KeepsPromises, SetsAtMost, SetsQuestion};
 
 use crate::cx::Cx;
+use crate::rouse::Rouse;
 use crate::world::{Asked, Handling, MOST_SET, Want, World};
 use std::alloc::Global;
 use ts_journal::{Journal, Pending};
@@ -129,6 +130,23 @@ impl<W: World + Drop> Group<W> {
     {
         self.cx.known();
         self.world.start(&mut self.cx);
+    }
+
+    /// Brings the world's events forward. No event is handled.
+    pub fn rouse(&mut self)
+    where
+        W: Rouse,
+        requires turn { self.old.cx.log.state.held ≡ true }
+        requires sound { Holds W.sound self.old }
+        ensures grows { Grows self.old.cx self.new.cx }
+        ensures turn { StaysInTurn self.old.cx.log.state self.new.cx.log.state }
+        ensures sound { Holds W.sound self.new }
+        ensures falls { LeavesLess W.left self.old 0 self.new }
+        ensures promises { KeepsPromises W.fits W.right W.may_ask self.old.world self.new.world }
+        ensures few { SetsAtMost W.fits self.old.world MOST_SET self.old.cx self.new.cx }
+    {
+        self.cx.known();
+        self.world.rouse(&mut self.cx);
     }
 
     /// Handles the pending event of a number, if it is due at the moment, and then the direct calls that its

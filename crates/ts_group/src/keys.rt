@@ -80,8 +80,8 @@ fn first_number(pending: &[Pending], key: ContKey) -> Option<u64>
     None
 }
 
-// Two keys are one.
-fn is_same(a: ContKey, b: ContKey) -> bool
+/// Whether two keys are one.
+pub fn is_same(a: ContKey, b: ContKey) -> bool
     ensures { result ≡ same_key a b }
 {
     a.index == b.index && a.generation == b.generation

@@ -5,15 +5,19 @@ use Rattle.std.specs.List.{filter}
 use Rattle.ts_hooks.specs.declared.hook.Hook.{Hook}
 use Rattle.ts_hooks.specs.declared.hook.Hook.TheVariants as h
 
--- plugins with their hooks, in the order in which they were added: those of all transactions, and those of
--- one
+-- plugins with their hooks, in the order in which they were added: those of all transactions, those of the
+-- session, which is the connection that a transaction came on, and those of one transaction
 pub record HookPlugins : Type 0 where
   pub global : List (Hook × ℕ)
+  pub session : List (Hook × ℕ)
   pub txn : List (Hook × ℕ)
 
--- one plugin more of all transactions, or of one
+-- one plugin more of all transactions, of the session, or of one transaction
 abbrev pub with_global : HookPlugins → Hook → ℕ → HookPlugins
 with_global table hook plugin = record table { global = table.global ++ (hook, plugin) ∷ [] }
+
+abbrev pub with_session : HookPlugins → Hook → ℕ → HookPlugins
+with_session table hook plugin = record table { session = table.session ++ (hook, plugin) ∷ [] }
 
 abbrev pub with_txn : HookPlugins → Hook → ℕ → HookPlugins
 with_txn table hook plugin = record table { txn = table.txn ++ (hook, plugin) ∷ [] }
@@ -36,9 +40,11 @@ is_same a b = order_of a == order_of b
 abbrev pub plugins_at : Hook → List (Hook × ℕ) → List ℕ
 plugins_at hook plugins = map (λ p. p.1) (filter (λ p. is_same p.0 hook) plugins)
 
--- a hook's list: the plugins of all transactions in the order of adding, and then those of this one
+-- a hook's list: the plugins of all transactions in the order of adding, then the session's, and then those
+-- of this transaction
 abbrev pub hook_list : HookPlugins → Hook → List ℕ
-hook_list table hook = plugins_at hook table.global ++ plugins_at hook table.txn
+hook_list table hook =
+    plugins_at hook table.global ++ (plugins_at hook table.session ++ plugins_at hook table.txn)
 
 -- the plugin at a place of a list, or by how many the place is past the list
 abbrev pub Finds : List ℕ → ℕ → Result ℕ ℕ → Type 0

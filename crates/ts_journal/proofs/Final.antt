@@ -9,17 +9,20 @@ use Rattle.ts_journal.specs.Machine.{Balances, HasLived, IsLawful, replay}
 pub record IsKept (log : Log) : Type 0 where
   pub lawful : IsLawful log.base.state log.entries
   pub state : log.state ≡ replay log.base.state log.entries
+  pub lived_base : HasLived log.base.made log.base.state
   pub lived : HasLived log.base.made log.state
   pub counts : Balances log.state
 
 -- what is read of a journal is known of its group
 pub is_kept : (log read : Log) (es : List Entry) → read ≡ log → es ≡ read.entries
     → IsLawful read.base.state es → read.state ≡ replay read.base.state es
-    → HasLived read.base.made read.state → Balances read.state → IsKept log
-is_kept log read es same are lawful state lived counts = subst IsKept same
+    → HasLived read.base.made read.base.state → HasLived read.base.made read.state → Balances read.state
+    → IsKept log
+is_kept log read es same are lawful state lived_base lived counts = subst IsKept same
     (record {
       lawful = subst (IsLawful read.base.state) are lawful;
       state = state ∙ ap (replay read.base.state) are;
+      lived_base = lived_base;
       lived = lived;
       counts = counts;
     })
@@ -29,6 +32,7 @@ pub is_final : (log : Log) → IsKept log → log.state.held ≡ false → log.s
 is_final log kept given idle = record {
   lawful = kept.lawful;
   state = kept.state;
+  lived_base = kept.lived_base;
   lived = kept.lived;
   given = given;
   none = idle;

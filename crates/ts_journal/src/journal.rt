@@ -229,6 +229,13 @@ impl Journal {
         self.tables.turns
     }
 
+    /// The number of turns with which the journal was made.
+    pub fn made(&self) -> u64
+        ensures { result ≡ self.now.base.made }
+    {
+        self.made
+    }
+
     /// Whether the turn that was recorded last is still held.
     pub fn is_held(&self) -> bool
         ensures { result ≡ self.now.state.held }
@@ -249,6 +256,7 @@ impl Journal {
         ensures valid_base { IsValid self.now.base.state }
         ensures valid { IsValid self.now.state }
         ensures lived { HasLived self.now.base.made self.now.state }
+        ensures lived_base { HasLived self.now.base.made self.now.base.state }
     {
         let _ = &self.tables;
     }

@@ -1,13 +1,14 @@
 -- What a read of a link in memory shows of it as a link.
 use Rattle.std.proofs.Common.{◌≡◌, ℕ, ◌+◌, ◌<◌, ◌≤◌, ◌++◌, List, [], ◌∷◌, length, take, true, false, Bool, refl, sym, ap, subst, ◌∙◌, cond, append_assoc, arith}
-use Rattle.std.specs.Prelude.{Some}
+use Rattle.std.specs.Prelude.{Some, ◌≢◌, ◌↔◌}
 use Rattle.std.proofs.lemmas.List.{append-nil}
 use Rattle.ts_link.specs.Counts.{Counted, greatest, one_more_if}
 use Rattle.ts_link.specs.Inputs.{Input, bytes_of, given_of, stalled_reads, next_answer, next_ahead}
 use Rattle.ts_link.specs.InputView.{IsSoundInput}
-use Rattle.ts_link.specs.Link.{AgainsFall, MayReplace, IsSure, Reads}
+use Rattle.ts_link.specs.Link.{AgainsFall, MayReplace, IsSure, Reads, WaitsAtStalls}
 use Rattle.ts_link.specs.LinkAnswers.{FillsSome, count_got, got_failed, got_again}
 use Rattle.ts_link.specs.MemLink.{LinkState, look_of, read_by, ahead_by, read_answer, after_read}
+use Rattle.ts_link.specs.Stalls.{StallsAt, stands_at}
 use Rattle.ts_link.specs.Numbered.{mishap_at, is_listed, after_call, waits_left}
 use Rattle.ts_link.specs.declared.link.Got.{Got}
 use Rattle.ts_link.specs.declared.numbered.Mishap.{Mishap}
@@ -69,6 +70,33 @@ next_answers room [] = refl
 next_answers room (Bytes bs ∷ ps) = refl
 next_answers room (Stall k ∷ ps) = refl
 
+-- where a stall stands at a place, there is one
+stands_some : (place : ℕ) (stalls : List (ℕ × ℕ)) → stands_at place stalls ≡ true → stalls ≢ []
+stands_some place [] at e = let none : ⊥ = cc in absurd none
+stands_some place (s ∷ ss) at e = let none : ⊥ = cc in absurd none
+
+-- a sure link's read that goes on with what is ahead waits exactly where a stall stands
+stalls_by : (s : LinkState) (room : ℕ) → IsSure (look_of s) → IsSoundInput s.input
+    → got_again (next_answer room s.input.ahead) ≡ true
+    ↔ StallsAt (length (given_of s.input)) (agains_of s) s.input.stalls
+stalls_by s room h fine =
+    let all : agains_of s ≡ stalled_reads s.input.ahead = agains_stalled s h in
+    let place : ℕ = length (given_of s.input) in (
+      waits_here room place (agains_of s) s.input.stalls s.input.ahead fine.front fine.stalls all,
+      here_waits room place (agains_of s) s.input.stalls s.input.ahead fine.front fine.stalls all,
+    )
+
+-- and so does each
+pub waits_exactly : (s : LinkState) (answer : Got) (room : ℕ) → answer ≡ read_answer s room
+    → (mishap_at s.reads ≡ Nothing → IsSoundInput s.input)
+    → WaitsAtStalls (look_of s) (got_again answer)
+waits_exactly s answer room a sound h =
+    let fine : mishap_at s.reads ≡ Nothing = sure_read s h in
+    let same : answer ≡ next_answer room s.input.ahead =
+    a ∙ ap (λ m. read_by m room s.input.ahead) fine in
+    subst (λ (g : Got). got_again g ≡ true ↔ StallsAt (length (given_of s.input)) (agains_of s) s.input.stalls)
+    (sym same) (stalls_by s room h (sound fine))
+
 reads_by : (s : LinkState) (room : ℕ) (into : List ℕ) (m : Mishap) → m ≡ mishap_at s.reads
     → room ≡ length into → 0 < room
     → s.reads.made ≤ greatest → s.faults ≤ greatest → s.waits ≤ greatest
@@ -83,6 +111,9 @@ reads_by s room into Fails e r some calls faults waits sound bytes = record {
     source = refl;
     name = refl;
     plan = refl;
+    carried = refl;
+    uploaded = refl;
+    before = refl;
     faults = omega arith;
     waits = refl;
     agains = omega (arith, waits_fall s.reads calls);
@@ -108,6 +139,9 @@ reads_by s room into Waits e r some calls faults waits sound bytes =
         source = refl;
         name = refl;
         plan = refl;
+        carried = refl;
+        uploaded = refl;
+        before = refl;
         faults = refl;
         waits = omega arith;
         agains = omega (arith, waits_listed s.reads calls listed);
@@ -137,20 +171,18 @@ reads_by s room into Nothing e r some calls faults waits sound bytes =
         source = refl;
         name = refl;
         plan = refl;
+        carried = refl;
+        uploaded = refl;
+        before = refl;
         faults = counted_if (got_failed answer) s.faults faults;
         waits = counted_if (got_again answer) s.waits waits;
         agains = waits_if (got_again answer) (agains_of s) (agains_of (read_state s room Nothing))
             (omega (arith, next_stalls room ahead fine.front, waits_fall s.reads calls));
       };
-      sure = λ h.
-          let all : agains_of s ≡ stalled_reads ahead = agains_stalled s h in
-          let place : ℕ = length (given_of s.input) in (
-            next_answers room ahead,
-            (
-              waits_here room place (agains_of s) s.input.stalls ahead fine.front fine.stalls all,
-              here_waits room place (agains_of s) s.input.stalls ahead fine.front fine.stalls all,
-            ),
-          );
+      sure = λ h. (
+        next_answers room ahead,
+        λ e. stands_some (length (given_of s.input)) s.input.stalls ((stalls_by s room h fine).0 e).stands,
+      );
       told = λ _. record {
         before = bytes_of ahead;
         replaced = same_replaces (given_of s.input) (bytes_of ahead);

@@ -1,5 +1,5 @@
 -- What a contract sees of a link, one end of a connection, and what a read and a write of it do.
-use Rattle.std.specs.Prelude.{◌≡◌, ◌↔◌, ℕ, ◌<◌, ◌≤◌, ◌++◌, List, [], ◌∷◌, length, take, ⊤, Bool, true, false, Option, Some, None, IfSome, IsSomeAnd}
+use Rattle.std.specs.Prelude.{◌≡◌, ◌≢◌, ◌↔◌, ℕ, ◌<◌, ◌≤◌, ◌++◌, List, [], ◌∷◌, length, take, ⊤, Bool, true, false, Option, Some, None, IfSome, IsSomeAnd}
 use Rattle.ts_link.specs.Counts.{Counted, one_more}
 use Rattle.ts_link.specs.LinkAnswers.{got_failed, got_again, count_got, FillsSome, EndsWell, put_failed, put_again, count_put, PutsSome, writes_after}
 use Rattle.ts_link.specs.Stalls.{StallsAt}
@@ -38,6 +38,9 @@ pub record Look : Type 0 where
   pub waits : ℕ  -- how many answers were Again
   pub agains : Option ℕ  -- how many Again answers it has left, where it tells
   pub plan : Option Plan  -- where it tells; no call changes it
+  pub carried : List ℕ  -- what of the bytes taken an upload wrote
+  pub uploaded : Bool  -- no upload is left that it has to move
+  pub before : List ℕ × List ℕ  -- what its connection gave and took before this link began
 
 -- all that a link gave and may still give
 abbrev pub all_of : Look → List ℕ
@@ -46,6 +49,10 @@ all_of l = l.given ++ l.left
 -- it tells its plan, and no call fails or waits by its number
 abbrev pub IsSure : Look → Type 0
 IsSure l = IsSomeAnd l.plan IsSurePlan
+
+-- its plan has a stall
+abbrev pub HasStalls : Look → Type 0
+HasStalls l = IsSomeAnd l.plan (λ p. p.stalls ≢ [])
 
 -- a stall of its plan stands at the place that it has come to
 abbrev pub StallsHere : Look → Type 0
@@ -94,6 +101,9 @@ pub record Calls (old new : Look) (failed waited : Bool) : Type 0 where
   pub source : new.source ≡ old.source
   pub name : new.name ≡ old.name
   pub plan : new.plan ≡ old.plan
+  pub carried : new.carried ≡ old.carried
+  pub uploaded : new.uploaded ≡ old.uploaded
+  pub before : new.before ≡ old.before
   pub faults : Counted failed old.faults new.faults
   pub waits : Counted waited old.waits new.waits
   pub agains : AgainsFall waited old.agains new.agains
@@ -108,9 +118,13 @@ pub record IsOneWrite (answer : Put) (old new : Look) : Type 0 where
   pub reads : new.reads ≡ old.reads
   pub writes : new.writes ≡ writes_after answer old.writes
 
--- a read of a sure link does not fail, and waits exactly where a stall stands
+-- a read of a sure link does not fail, and waits only where its plan has stalls
 abbrev pub ReadsSurely : Look → Bool → Bool → Type 0
-ReadsSurely old failed waited = IsSure old → (failed ≡ false) × (waited ≡ true ↔ StallsHere old)
+ReadsSurely old failed waited = IsSure old → (failed ≡ false) × (waited ≡ true → HasStalls old)
+
+-- a read of a sure link waits exactly where a stall stands
+abbrev pub WaitsAtStalls : Look → Bool → Type 0
+WaitsAtStalls old waited = IsSure old → (waited ≡ true ↔ StallsHere old)
 
 -- and writes on, until it has left
 abbrev pub WritesSurely : Look → Bool → Bool → Type 0

@@ -1,5 +1,5 @@
 -- What contracts see of a link in memory, and exactly what its calls do.
-use Rattle.std.specs.Prelude.{◌≡◌, ℕ, zero, suc, ◌+◌, ◌-◌, ◌++◌, min, List, [], length, take, Option, Some, None, ⊤}
+use Rattle.std.specs.Prelude.{◌≡◌, ℕ, zero, suc, ◌+◌, ◌-◌, ◌++◌, min, List, [], length, take, true, Option, Some, None, ⊤}
 use Rattle.std.specs.Option.{option_map}
 use Rattle.ts_link.specs.Counts.{one_more, one_more_if}
 use Rattle.ts_link.specs.Inputs.{Input, bytes_of, given_of, stalled_reads, next_answer, next_ahead}
@@ -59,6 +59,9 @@ look_of s = record {
   waits = s.waits;
   agains = Some (stalled_reads s.input.ahead + waits_left s.reads + waits_left s.writes);
   plan = Some (plan_of s);
+  carried = [];
+  uploaded = true;
+  before = ([], []);
 }
 
 -- a link that nothing was done with: it has all of its input ahead

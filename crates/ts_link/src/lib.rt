@@ -20,7 +20,7 @@ mod sink;
 
 pub use clock::{Clock, RETRY_AFTER, StepClock};
 pub use gate::{Gate, MeetGate, OpenGate};
-pub use link::{Got, Link, Put};
+pub use link::{Got, Link, Put, Sourced};
 pub use mem_link::MemLink;
 pub use mem_shelf::MemShelf;
 pub use mem_sink::MemSink;

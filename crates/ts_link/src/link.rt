@@ -1,6 +1,6 @@
 //! Links, the ends of connections.
-ghost use Rattle.std.specs.Prelude.{◌≡◌, ℕ, ◌<◌, Bool, length};
-ghost use Rattle.ts_link.specs.Link.{Look, Reads, Writes};
+ghost use Rattle.std.specs.Prelude.{◌≡◌, ℕ, ◌<◌, Bool, length, true};
+ghost use Rattle.ts_link.specs.Link.{Look, Reads, Writes, all_of};
 ghost use Rattle.ts_link.specs.LinkAnswers.{got_again, got_failed};
 
 /// What a link answers to a read. `Bytes` has the number of bytes that were put at the front of the room, at
@@ -51,6 +51,9 @@ pub trait Link {
     // The second is the first after some calls of this trait on it.
     ghost goes: { Self → Self → Type 0 };
 
+    // It is the same link, whatever was called on it.
+    ghost still: { Self → Self → Type 0 };
+
     /// Reads into the room, which is not empty.
     fn read(&mut self, into: &mut [u8]) -> Got
         requires { 0 < length into.old }
@@ -71,4 +74,16 @@ pub trait Link {
     ghost stays: { (l : Self) → goes l l };
 
     ghost goes_on: { (l m n : Self) → goes l m → goes m n → goes l n };
+
+    // Calls of this trait leave it the same link, and it stays so.
+    ghost goes_still: { (l m : Self) → goes l m → still l m };
+
+    ghost still_on: { (l m n : Self) → still l m → still m n → still l n };
+}
+
+/// A link of which one is told what its source is.
+pub trait Sourced: Link {
+    /// What holds of every one that tells: what it gave and may still give is its source.
+    fn known(&self)
+        ensures { Self.tells ≡ true → all_of (Self.look self.now) ≡ (Self.look self.now).source };
 }

@@ -3,14 +3,14 @@ ghost use Rattle.std.specs.Prelude.{◌≡◌, ◌<◌, ◌≤◌, ◌++◌, [],
 ghost use Rattle.ts_link.specs.Counts.{greatest, one_more_if};
 ghost use Rattle.ts_link.specs.Inputs.{after_next, bytes_of, next_answer};
 ghost use Rattle.ts_link.specs.InputView.{IsSoundInput, seen_cut, seen_pieces};
-ghost use Rattle.ts_link.specs.Link.{Reads, Writes, all_of};
-ghost use Rattle.ts_link.specs.LinkAnswers.{count_put, got_bytes};
+ghost use Rattle.ts_link.specs.Link.{Reads, WaitsAtStalls, Writes, all_of};
+ghost use Rattle.ts_link.specs.LinkAnswers.{count_put, got_again, got_bytes};
 ghost use Rattle.ts_link.specs.MemLink.{IsPut, after_by, after_read, after_write, at_most, fresh_link, input_of, less, look_of, plan_of, read_answer, read_by, write_answer, write_by};
 ghost use Rattle.ts_link.specs.Numbered.{mishap_at, no_calls};
 
 use crate::cut_input::CutInput;
 use crate::input::MemInput;
-use crate::link::{Got, Link, Put};
+use crate::link::{Got, Link, Put, Sourced};
 use crate::numbered::{Mishap, NumberedCalls};
 use crate::octets::Octets;
 use crate::piece::Piece;
@@ -124,17 +124,6 @@ impl MemLink {
         ensures { result ≡ self.now.waits }
     {
         self.waits
-    }
-
-    /// What holds of every link in memory: what it gave and what it may still give are all that it was made
-    /// with.
-    pub fn known(&self)
-        ensures { all_of (look_of self.now) ≡ (look_of self.now).source }
-    {
-        match &self.input {
-            MemInput::Cut(cut) => cut.known(),
-            MemInput::Pieces(pieces) => pieces.known(),
-        }
     }
 
     /// Gives it another name.
@@ -287,12 +276,15 @@ impl Link for MemLink {
 
     ghost goes = { λ a b. ⊤ };
 
+    ghost still = { λ a b. ⊤ };
+
     fn read(&mut self, into: &mut [u8]) -> Got
         requires { 0 < length into.old }
         ensures reads { Reads true (look_of self.old) (look_of self.new) result into.new }
         ensures goes { ⊤ }
         ensures answer { result ≡ read_answer self.old (length into.old) }
         ensures after { self.new ≡ after_read self.old (length into.old) result }
+        ensures stalls { WaitsAtStalls (look_of self.old) (got_again result) }
     {
         read_once(self, into)
     }
@@ -314,4 +306,20 @@ impl Link for MemLink {
     ghost stays = { λ l. tt };
 
     ghost goes_on = { λ l m n g h. tt };
+
+    ghost goes_still = { λ l m g. tt };
+
+    ghost still_on = { λ l m n g h. tt };
+}
+
+impl Sourced for MemLink {
+    // What it gave and may still give are all that it was made with.
+    fn known(&self)
+        ensures { all_of (look_of self.now) ≡ (look_of self.now).source }
+    {
+        match &self.input {
+            MemInput::Cut(cut) => cut.known(),
+            MemInput::Pieces(pieces) => pieces.known(),
+        }
+    }
 }

@@ -1,18 +1,14 @@
 //! Links that fail or leave: how the transaction ends, and that what was sent by then is a front of what is
 //! stated.
 
+use crate::exchange::{EndedTxn, exchange, setup_of};
+use crate::plan::{Plan, dripping, dripping_after, giving, leaving, origin_of};
+use crate::refusal::Refusal;
+use crate::row::{Finding, Row, check_between, check_front, get, judge, judge_front, own, run_row};
+use crate::stated::{ABC, ABC_FRONT, BAD_GATEWAY, GET, GET_SENT, HEAD, HEAD_SENT, SIZED};
+use crate::stock::{HTML, HTML_FRONT, STOCK, html};
 use std::alloc::Global;
 use std::test::Fail;
-use ts_exchange_tests::exchange::{EndedTxn, exchange, setup_of};
-use ts_exchange_tests::plan::{Plan, dripping, dripping_after, giving, leaving, origin_of};
-use ts_exchange_tests::refusal::Refusal;
-use ts_exchange_tests::row::{
-    Finding, Row, check_between, check_front, get, judge, judge_front, own, run_row,
-};
-use ts_exchange_tests::stated::{
-    ABC, ABC_FRONT, BAD_GATEWAY, GET, GET_SENT, HEAD, HEAD_SENT, SIZED,
-};
-use ts_exchange_tests::stock::{HTML, HTML_FRONT, STOCK, html};
 use ts_hooks::TxnEnd;
 use ts_link::MemLink;
 use ts_txn::TxnParts;
@@ -95,8 +91,8 @@ fn a_client_that_leaves_in_its_head_got_a_front(rt: HostRuntime) -> Result<(), F
     let alloc = rt.alloc();
     let row = html(b"prepend.so <\n", b"<banana");
     for at in 0..row.head.len() {
-        let verdict = check_leaving(alloc, &row, at)?;
-        assert_eq!(rt; verdict, Finding::AsStated, "at {at}");
+        let verdict = check_leaving(alloc, &row, at);
+        assert_eq!(rt; verdict, Ok(Finding::AsStated), "at {at}");
     }
     Ok(())
 }
@@ -113,8 +109,8 @@ fn a_client_that_leaves_in_an_answer_of_the_proxys_own_got_a_front(
             ..row
         };
         for at in 0..row.head.len() + row.body.len() {
-            let verdict = check_leaving(rt.alloc(), &row, at)?;
-            assert_eq!(rt; verdict, Finding::AsStated, "at {at}");
+            let verdict = check_leaving(rt.alloc(), &row, at);
+            assert_eq!(rt; verdict, Ok(Finding::AsStated), "at {at}");
         }
     }
     Ok(())
@@ -128,8 +124,8 @@ fn a_client_that_leaves_in_its_body_got_a_front(rt: HostRuntime) -> Result<(), F
         let (whole, length) = check_length(alloc, &row)?;
         assert_eq!(rt; whole, Finding::AsStated, "line {place}");
         for at in row.head.len()..length {
-            let verdict = check_leaving(alloc, &row, at)?;
-            assert_eq!(rt; verdict, Finding::AsStated, "line {place}, at {at}");
+            let verdict = check_leaving(alloc, &row, at);
+            assert_eq!(rt; verdict, Ok(Finding::AsStated), "line {place}, at {at}");
         }
     }
     Ok(())
@@ -142,8 +138,8 @@ fn a_client_that_fails_at_each_write_got_a_front(rt: HostRuntime) -> Result<(), 
     // Each of the seven bytes goes in a chunk of its own at most.
     let least = row.head.len() as u64 + 17;
     for write in 1..=least {
-        let verdict = check_failing(alloc, &row, write)?;
-        assert_eq!(rt; verdict, Finding::AsStated, "write {write}");
+        let verdict = check_failing(alloc, &row, write);
+        assert_eq!(rt; verdict, Ok(Finding::AsStated), "write {write}");
     }
     Ok(())
 }
@@ -179,15 +175,15 @@ fn an_origin_that_fails_in_its_body_gave_a_front(rt: HostRuntime) -> Result<(), 
         let row = html(lines, body);
         // The first read brings the head, and each of the other six a byte.
         for read in 2..=7 {
-            let verdict = check_origin(alloc, &row, HTML, HTML_FRONT, read)?;
-            assert_eq!(rt; verdict, Finding::AsStated, "line {place}, read {read}");
+            let verdict = check_origin(alloc, &row, HTML, HTML_FRONT, read);
+            assert_eq!(rt; verdict, Ok(Finding::AsStated), "line {place}, read {read}");
         }
         // Of a body up to the close one more read brings its end.
         for read in 2..=8 {
-            let verdict = check_origin(alloc, &row, ENDLESS_HTML, ENDLESS_FRONT, read)?;
+            let verdict = check_origin(alloc, &row, ENDLESS_HTML, ENDLESS_FRONT, read);
             assert_eq!(rt;
                 verdict,
-                Finding::AsStated,
+                Ok(Finding::AsStated),
                 "line {place}, endless, read {read}"
             );
         }
@@ -204,8 +200,8 @@ fn an_origin_that_fails_in_its_head_is_answered_for(rt: HostRuntime) -> Result<(
             fail_read: read,
             ..dripping(HTML)
         };
-        let verdict = check_between(alloc, &row, &giving(GET), Some(origin))?;
-        assert_eq!(rt; verdict, Finding::AsStated, "read {read}");
+        let verdict = check_between(alloc, &row, &giving(GET), Some(origin));
+        assert_eq!(rt; verdict, Ok(Finding::AsStated), "read {read}");
     }
     let head = Row {
         end: TxnEnd::OriginFault,
@@ -216,8 +212,8 @@ fn an_origin_that_fails_in_its_head_is_answered_for(rt: HostRuntime) -> Result<(
             fail_read: read,
             ..dripping(b"HTTP/1.1 200 OK\r\n")
         };
-        let verdict = check_between(alloc, &head, &giving(HEAD), Some(origin))?;
-        assert_eq!(rt; verdict, Finding::AsStated, "HEAD, read {read}");
+        let verdict = check_between(alloc, &head, &giving(HEAD), Some(origin));
+        assert_eq!(rt; verdict, Ok(Finding::AsStated), "HEAD, read {read}");
     }
     Ok(())
 }
@@ -235,8 +231,8 @@ fn an_origin_that_fails_at_each_write_is_answered_for(rt: HostRuntime) -> Result
             fail_write: write as u64,
             ..dripping(ABC)
         };
-        let verdict = check_between(alloc, &row, &giving(GET), Some(origin))?;
-        assert_eq!(rt; verdict, Finding::AsStated, "write {write}");
+        let verdict = check_between(alloc, &row, &giving(GET), Some(origin));
+        assert_eq!(rt; verdict, Ok(Finding::AsStated), "write {write}");
     }
     Ok(())
 }
@@ -254,8 +250,8 @@ fn a_client_that_fails_at_each_read_gets_nothing(rt: HostRuntime) -> Result<(), 
             fail_read: read as u64,
             ..dripping(GET)
         };
-        let verdict = check_between(alloc, &row, &client, Some(giving(ABC)))?;
-        assert_eq!(rt; verdict, Finding::AsStated, "read {read}");
+        let verdict = check_between(alloc, &row, &client, Some(giving(ABC)));
+        assert_eq!(rt; verdict, Ok(Finding::AsStated), "read {read}");
     }
     Ok(())
 }
@@ -278,8 +274,8 @@ fn a_client_that_fails_last_decides_the_end(rt: HostRuntime) -> Result<(), Fail>
                 take: 1,
                 ..giving(GET)
             };
-            let verdict = check_front(alloc, &row, TxnEnd::ClientFault, &client, Some(origin))?;
-            assert_eq!(rt; verdict, Finding::AsStated, "write {write}");
+            let verdict = check_front(alloc, &row, TxnEnd::ClientFault, &client, Some(origin));
+            assert_eq!(rt; verdict, Ok(Finding::AsStated), "write {write}");
         }
     }
     Ok(())

@@ -1,13 +1,13 @@
 //! Exchanges of which an allocation may be refused: one of them ends for want of memory with a front of what
 //! is stated, and all are whole when they are made again.
 
+use crate::plan::{dripping_after, giving};
+use crate::refusal::Refusal;
+use crate::row::{Finding, Row, get, judge, judge_front, own, run_row};
+use crate::stated::{ABC, BAD_GATEWAY, GET, GET_SENT, SIZED};
+use crate::stock::html;
 use std::alloc::Global;
 use std::test::Fail;
-use ts_exchange_tests::plan::{dripping_after, giving};
-use ts_exchange_tests::refusal::Refusal;
-use ts_exchange_tests::row::{Finding, Row, get, judge, judge_front, own, run_row};
-use ts_exchange_tests::stated::{ABC, BAD_GATEWAY, GET, GET_SENT, SIZED};
-use ts_exchange_tests::stock::html;
 use ts_hooks::TxnEnd;
 use ts_link::MemLink;
 use ts_txn::TxnParts;

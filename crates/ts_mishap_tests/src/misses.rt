@@ -4,27 +4,32 @@
 ghost use Rattle.std.specs.Prelude.{◌≡◌, IfOk};
 ghost use Rattle.ts_slot.specs.Words.{tags_of, view};
 ghost use Rattle.ts_thread.specs.Threads.{HasOpened, IsPair};
-ghost use Rattle.ts_exchange_tests.specs.Begun.{HasRowTags};
+ghost use Rattle.ts_mishap_tests.specs.Begun.{HasRowTags};
 
+use crate::exchange::{FIRST_PLUGIN, MemTxn, make_row, setup_of};
+use crate::plan::{giving, link_of, origin_of};
+use crate::refusal::Refusal;
+use crate::row::{Finding, Row, check_at_once, get, judge};
+use crate::stated::{ABC, FORBIDDEN, SIZED};
 use std::alloc::Global;
+use std::process::Abort;
 use std::sync::Wait;
 use std::test::Fail;
-use ts_exchange_tests::exchange::{FIRST_PLUGIN, GroupRow, MemTxn, make_row, setup_of};
-use ts_exchange_tests::plan::{giving, link_of, origin_of};
-use ts_exchange_tests::refusal::Refusal;
-use ts_exchange_tests::row::{Finding, Row, check_at_once, get, judge};
-use ts_exchange_tests::stated::{ABC, FORBIDDEN, SIZED};
+use ts_exchange::GroupRow;
 use ts_group::{Either, Group};
 use ts_link::{NoMemory, OpenGate};
 use ts_plugin::Plugin;
 use ts_queue::{EventQueue, QueuePass};
 use ts_slot::{Seat, Slots};
-use ts_thread::{Did, EventThread, start_groups};
+use ts_thread::{Did, EventThread, Shared, start_groups};
 use ts_txn::MOST_GROUPS;
 use ts_wire::Mode;
 
 // The world of a group here.
 type MemWorld = Either<MemTxn, Plugin>;
+
+// Why a run has no outcome.
+const MEMORY: &str = "memory lacks";
 
 // How many turns of a thread come to the question at most, and from its reply to the end.
 const MOST_TURNS: u32 = 64;
@@ -64,7 +69,14 @@ fn open<R: Wait>(rt: &R, alloc: Global, row: &Row<'_>) -> Result<Opened, Refusal
         return Err(Refusal::NoMemory);
     };
     let (queue, mut pass) = EventQueue::make(alloc)?;
-    start_groups(rt, alloc, &slots, &queue, &mut seat, &mut pass, 1)?;
+    let gate = OpenGate::make();
+    let shared = Shared {
+        rt,
+        slots: &slots,
+        queue: &queue,
+        gate: &gate,
+    };
+    start_groups(&shared, alloc, &mut seat, &mut pass, 1)?;
     Ok(Opened {
         slots,
         seat,
@@ -88,7 +100,7 @@ fn take_turn<R: Wait>(
 }
 
 // Takes turns at a moment until a plugin is missed, or the thread is idle.
-#[tactic(auto, using(ts_exchange_tests::proofs::Rows::same_tags))]
+#[tactic(auto, using(crate::proofs::Rows::same_tags))]
 fn take_turns<R: Wait>(
     rt: &R,
     thread: &mut EventThread<MemWorld, OpenGate>,
@@ -128,8 +140,8 @@ fn judge_first(
 }
 
 // What comes of a row whose first plugin's group another seat holds, until it is missed once.
-#[tactic(auto, using(ts_group::specs::Standing::stands_itself, ts_exchange_tests::proofs::Rows::same_tags))]
-fn miss_once<R: Wait>(rt: &R, alloc: Global, row: &Row<'_>) -> Result<Missed, Refusal> {
+#[tactic(auto, using(ts_group::specs::Standing::stands_itself, crate::proofs::Rows::same_tags))]
+fn miss_once<R: Abort + Wait>(rt: &R, alloc: Global, row: &Row<'_>) -> Result<Missed, Refusal> {
     let Opened {
         slots,
         mut seat,
@@ -149,10 +161,10 @@ fn miss_once<R: Wait>(rt: &R, alloc: Global, row: &Row<'_>) -> Result<Missed, Re
     };
     let miss = take_turns(rt, &mut thread, 0);
     slots.leave(&mut other, held);
-    let miss = miss?;
-    let early = take_turn(rt, &mut thread, 9)?;
-    let again = take_turn(rt, &mut thread, 10)?;
-    take_turns(rt, &mut thread, 10)?;
+    let miss = miss.expect(rt, MEMORY);
+    let early = take_turn(rt, &mut thread, 9).expect(rt, MEMORY);
+    let again = take_turn(rt, &mut thread, 10).expect(rt, MEMORY);
+    take_turns(rt, &mut thread, 10).expect(rt, MEMORY);
     let (mut seat, _pass) = thread.into_parts();
     slots.join(&mut seat, other);
     let Ok(groups) = slots.close(alloc, seat) else {
@@ -204,8 +216,8 @@ fn a_plugin_that_is_missed_is_asked_again(rt: HostRuntime) -> Result<(), Fail> {
     };
     for (place, row) in of_each_hook().iter().enumerate() {
         assert_eq!(rt;
-            check_at_once(rt.alloc(), row)?,
-            Finding::AsStated,
+            check_at_once(rt.alloc(), row),
+            Ok(Finding::AsStated),
             "row {place}"
         );
         assert_eq!(rt; miss_once(&rt, rt.alloc(), row)?, stated, "row {place}");

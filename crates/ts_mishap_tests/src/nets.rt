@@ -5,13 +5,13 @@ ghost use Rattle.std.specs.List.{All};
 ghost use Rattle.ts_txn.specs.Making.{ArePaired, IsNewLink, IsNewLinkIf};
 ghost use Rattle.ts_txn.specs.PairStock.{IsNewPair};
 
+use crate::exchange::{EndedTxn, exchange, setup_of};
+use crate::plan::{giving, link_of, origin_of};
+use crate::refusal::Refusal;
+use crate::row::{Finding, Row, get, head, judge, own};
+use crate::stated::{ABC, BAD_GATEWAY, GET, SIZED};
 use std::alloc::Global;
 use std::test::Fail;
-use ts_exchange_tests::exchange::{EndedTxn, exchange, setup_of};
-use ts_exchange_tests::plan::{giving, link_of, origin_of};
-use ts_exchange_tests::refusal::Refusal;
-use ts_exchange_tests::row::{Finding, Row, get, head, judge, own};
-use ts_exchange_tests::stated::{ABC, BAD_GATEWAY, GET, SIZED};
 use ts_hooks::TxnEnd;
 use ts_link::MemLink;
 use ts_txn::{Accepted, Began, Dialed, MemNet, Net, NetCounts, Retired};

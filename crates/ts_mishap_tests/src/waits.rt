@@ -1,14 +1,14 @@
 //! Links that make their caller wait: the same texts, and a pause of 10 milliseconds for each such answer.
 
+use crate::exchange::EndedTxn;
 use crate::journals::{last_made, last_moment, least_gap};
+use crate::plan::{Plan, dripping, dripping_after, giving};
+use crate::refusal::Refusal;
+use crate::row::{Finding, Row, get, judge, own, run_row};
+use crate::stated::{ABC, BAD_GATEWAY, GET, GET_SENT, HEAD, SIZED};
+use crate::stock::{HTML, HTML_FRONT, STOCK, html};
 use std::alloc::Global;
 use std::test::Fail;
-use ts_exchange_tests::exchange::EndedTxn;
-use ts_exchange_tests::plan::{Plan, dripping, dripping_after, giving};
-use ts_exchange_tests::refusal::Refusal;
-use ts_exchange_tests::row::{Finding, Row, get, judge, own, run_row};
-use ts_exchange_tests::stated::{ABC, BAD_GATEWAY, GET, GET_SENT, HEAD, SIZED};
-use ts_exchange_tests::stock::{HTML, HTML_FRONT, STOCK, html};
 use ts_journal::Entry;
 use ts_wire::Mode;
 
@@ -85,8 +85,8 @@ fn a_client_that_waits_at_each_read(rt: HostRuntime) -> Result<(), Fail> {
             again_reads: (read, read + 1),
             ..dripping(GET)
         };
-        let verdict = check_pauses(rt.alloc(), &row, &client, Some(dripping(ABC)), (WAITS, 0))?;
-        assert_eq!(rt; verdict, Finding::AsStated, "read {read}");
+        let verdict = check_pauses(rt.alloc(), &row, &client, Some(dripping(ABC)), (WAITS, 0));
+        assert_eq!(rt; verdict, Ok(Finding::AsStated), "read {read}");
     }
     Ok(())
 }
@@ -99,8 +99,8 @@ fn an_origin_that_waits_at_each_write(rt: HostRuntime) -> Result<(), Fail> {
             again_writes: (write, write + 1),
             ..dripping(ABC)
         };
-        let verdict = check_pauses(rt.alloc(), &row, &dripping(GET), Some(origin), (0, WAITS))?;
-        assert_eq!(rt; verdict, Finding::AsStated, "write {write}");
+        let verdict = check_pauses(rt.alloc(), &row, &dripping(GET), Some(origin), (0, WAITS));
+        assert_eq!(rt; verdict, Ok(Finding::AsStated), "write {write}");
     }
     Ok(())
 }
@@ -122,8 +122,12 @@ fn a_client_that_waits_at_each_write(rt: HostRuntime) -> Result<(), Fail> {
                 again_writes: (write, write + 1),
                 ..dripping_after(GET, 0)
             };
-            let verdict = check_waiting(alloc, &row, &client, origin, (WAITS, 0))?;
-            assert_eq!(rt; verdict, Finding::AsStated, "line {place}, write {write}");
+            let verdict = check_waiting(alloc, &row, &client, origin, (WAITS, 0));
+            assert_eq!(rt;
+                verdict,
+                Ok(Finding::AsStated),
+                "line {place}, write {write}"
+            );
         }
     }
     Ok(())
@@ -140,8 +144,8 @@ fn an_origin_that_waits_at_each_read(rt: HostRuntime) -> Result<(), Fail> {
                 again_reads: (read, read + 1),
                 ..dripping_after(HTML, HTML_FRONT)
             };
-            let verdict = check_waiting(alloc, &row, &client, origin, (0, WAITS))?;
-            assert_eq!(rt; verdict, Finding::AsStated, "line {place}, read {read}");
+            let verdict = check_waiting(alloc, &row, &client, origin, (0, WAITS));
+            assert_eq!(rt; verdict, Ok(Finding::AsStated), "line {place}, read {read}");
         }
     }
     Ok(())
@@ -161,8 +165,12 @@ fn both_links_wait_at_each_call(rt: HostRuntime) -> Result<(), Fail> {
                 again_reads: (read, read + 1),
                 ..dripping_after(HTML, HTML_FRONT)
             };
-            let verdict = check_waiting(alloc, &row, &client, origin, (WAITS, WAITS))?;
-            assert_eq!(rt; verdict, Finding::AsStated, "line {place}, {write}, {read}");
+            let verdict = check_waiting(alloc, &row, &client, origin, (WAITS, WAITS));
+            assert_eq!(rt;
+                verdict,
+                Ok(Finding::AsStated),
+                "line {place}, {write}, {read}"
+            );
         }
     }
     Ok(())
@@ -179,14 +187,14 @@ fn a_link_that_waits_is_left_alone_for_ten_milliseconds(rt: HostRuntime) -> Resu
             again_writes: (call, call + 1),
             ..client
         };
-        let verdict = check_pauses(alloc, &row, &late, Some(origin), (WAITS, 0))?;
-        assert_eq!(rt; verdict, Finding::AsStated, "write {call}");
+        let verdict = check_pauses(alloc, &row, &late, Some(origin), (WAITS, 0));
+        assert_eq!(rt; verdict, Ok(Finding::AsStated), "write {call}");
         let late = Plan {
             again_reads: (call, call + 1),
             ..origin
         };
-        let verdict = check_pauses(alloc, &row, &client, Some(late), (0, WAITS))?;
-        assert_eq!(rt; verdict, Finding::AsStated, "read {call}");
+        let verdict = check_pauses(alloc, &row, &client, Some(late), (0, WAITS));
+        assert_eq!(rt; verdict, Ok(Finding::AsStated), "read {call}");
     }
     Ok(())
 }
@@ -205,8 +213,8 @@ fn a_client_that_waits_at_its_first_writes(rt: HostRuntime) -> Result<(), Fail> 
                 again_writes: (1, 2),
                 ..plan
             };
-            let verdict = check_pauses(rt.alloc(), &row, &client, None, (WAITS, 0))?;
-            assert_eq!(rt; verdict, Finding::AsStated);
+            let verdict = check_pauses(rt.alloc(), &row, &client, None, (WAITS, 0));
+            assert_eq!(rt; verdict, Ok(Finding::AsStated));
         }
     }
     Ok(())
@@ -242,7 +250,7 @@ fn check_stage(
 fn a_stage_pauses_between_its_events(rt: HostRuntime) -> Result<(), Fail> {
     let row = html(b"delay.so 5\n", b"banana");
     let origin = dripping_after(HTML, HTML_FRONT);
-    let verdict = check_stage(rt.alloc(), &row, &dripping_after(GET, 0), origin)?;
-    assert_eq!(rt; verdict, Finding::AsStated);
+    let verdict = check_stage(rt.alloc(), &row, &dripping_after(GET, 0), origin);
+    assert_eq!(rt; verdict, Ok(Finding::AsStated));
     Ok(())
 }

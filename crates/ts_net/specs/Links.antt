@@ -1,5 +1,5 @@
 -- What contracts see of a link over a stream, and what its calls leave of it.
-use Rattle.std.specs.Prelude.{ℕ, [], None}
+use Rattle.std.specs.Prelude.{ℕ, [], true, None}
 use Rattle.ts_link.specs.Counts.{one_more, one_more_if}
 use Rattle.ts_link.specs.Link.{Look}
 use Rattle.ts_link.specs.LinkAnswers.{got_failed, got_again, put_failed, put_again, writes_after}
@@ -21,6 +21,9 @@ look_of l = record {
   waits = l.waits;
   agains = None;
   plan = None;
+  carried = [];
+  uploaded = true;
+  before = ([], []);
 }
 
 -- a link of which no call was made

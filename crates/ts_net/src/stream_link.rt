@@ -3,13 +3,14 @@ ghost use Rattle.std.specs.Prelude.{◌≡◌, ◌<◌, length, false, Some, ⊤
 ghost use Rattle.std.proofs.Common.{arith};
 ghost use Rattle.ts_link.specs.Counts.{Counted, Rose, one_more, one_more_if};
 ghost use Rattle.ts_link.specs.Link.{Reads, Writes};
+ghost use Rattle.ts_upstream.specs.Uploads.{MovesNothing};
 ghost use Rattle.ts_net.specs.Heard.{HearsRead, HearsWrite};
 ghost use Rattle.ts_net.specs.Links.{after_read, after_write, fresh_link, look_of};
 
 use crate::heard::{got_of, put_of};
 use crate::stream::Stream;
 use mio::net::TcpStream;
-use ts_link::{Got, Link, Put};
+use ts_link::{Got, Link, Put, Sourced};
 use ts_upstream::{Uploaded, Upstream};
 
 /// A link over a stream, with its name and its counts. It tells nothing of the bytes that pass.
@@ -88,6 +89,8 @@ impl<S: Stream> Link for StreamLink<S> {
 
     ghost goes = { λ before after. ⊤ };
 
+    ghost still = { λ before after. ⊤ };
+
     // The clauses of every link, what the stream answered, and exactly what was counted.
     fn read(&mut self, into: &mut [u8]) -> Got
         requires { 0 < length into.old }
@@ -133,6 +136,15 @@ impl<S: Stream> Link for StreamLink<S> {
     ghost stays = { λ l. tt };
 
     ghost goes_on = { λ l m n g h. tt };
+
+    ghost goes_still = { λ l m g. tt };
+
+    ghost still_on = { λ l m n g h. tt };
+}
+
+// It tells nothing of its bytes.
+impl<S: Stream> Sourced for StreamLink<S> {
+    fn known(&self) {}
 }
 
 // A stream has no upload to move, and belongs to any client.
@@ -142,6 +154,8 @@ impl<C: Link, S: Stream> Upstream<C> for StreamLink<S> {
     ghost refuses = { λ o list. ⊥ };
 
     ghost upload_left = { λ c o. Some 0 };
+
+    ghost one_upload = { MovesNothing };
 
     fn upload(&mut self, _client: &mut C) -> Uploaded
         ensures done { result ≡ Uploaded.Done }

@@ -127,8 +127,13 @@ passed t v w head q a hears (is, passes) =
     }
 
 -- what an untouched origin took
-took_none : (o : LinkSide) → Untouched o → TookExactly [] o
-took_none o u = record { upload = []; text = u.no_taken; nothing = λ is. refl; no_waits = u.no_waits }
+took_none : (refuses : Type 0) (o : LinkSide) → Untouched o → TookExactly refuses [] o
+took_none refuses o u = record {
+  text = u.no_taken ∙ sym u.no_carried;
+  nothing = λ is. u.no_carried;
+  uploaded = λ some. absurd (some refl);
+  no_waits = u.no_waits;
+}
 
 -- an answer whose block has no request
 pub untouched_own : (setup : Setup) (refuses : Type 0) (v : View) (a : OwnAnswer)
@@ -137,7 +142,7 @@ pub untouched_own : (setup : Setup) (refuses : Type 0) (v : View) (a : OwnAnswer
     (own_block setup [] a.status a.to_head) → OwnReady setup refuses v a
 untouched_own setup refuses v a waits untouched whole block = record {
   waits = waits;
-  cause = decided [] block whole (took_none v.origin untouched);
+  cause = decided [] block whole (took_none refuses v.origin untouched);
   took = facts.nothing untouched.no_taken untouched.no_waits;
 }
 
@@ -223,7 +228,7 @@ gave_nothing setup refuses t v w told a hears none =
           is_block = silent all refl;
           ends = refl;
           took =
-              took_none w.origin now.untouched;
+              took_none refuses w.origin now.untouched;
           no_waits = now.quiet.no_waits;
           mode = now.quiet.plain;
         };

@@ -155,6 +155,7 @@ queued_at setup v q h =
       };
       text = ap (λ (x : List ℕ). x ++ (v.origin.outbox ++ text)) h.untouched.no_taken
           ∙ ap (λ (x : List ℕ). x ++ text) h.untouched.no_waits;
+      no_carried = h.untouched.no_carried;
     }
 
 pub queued : (setup : Setup) (v w : View) (q : Request) (text : List ℕ) → IsAllowed setup v q
@@ -181,6 +182,7 @@ writes_at setup t v s p q told h writes =
         no_held = writes.inbox ∙ h.unanswered.no_held;
       };
       text = writes.pushes.text told ∙ h.text;
+      no_carried = writes.pushes.calls.carried ∙ h.no_carried;
     }
 
 pub writes_on : (setup : Setup) (t : Bool) (v w : View) (p : Pushed) (q : Request) → t ≡ true
@@ -191,12 +193,12 @@ writes_on setup t v w p q told h writes = subst (λ (x : View). SendingRequest s
 -- what the origin took, with what waits for it, is the head alone
 head_alone : (setup : Setup) (v : View) (q : Request) → SendingRequest setup v q
     → CarriesRequest setup q v.origin
-head_alone setup v q h = record {
-  upload = [];
-  text = h.text
-      ∙ sym (append-nil (request_text setup q.head q.target q.host));
-  behind = λ some. refl;
-}
+head_alone setup v q h =
+    let text = request_text setup q.head q.target q.host in
+    record {
+      text = h.text ∙ sym (append-nil text) ∙ ap (λ (x : List ℕ). text ++ x) (sym h.no_carried);
+      behind = λ some. h.no_carried;
+    }
 
 -- all of it was
 pub written : (setup : Setup) (t : Bool) (v w : View) (q : Request) → t ≡ true → SendingRequest setup v q

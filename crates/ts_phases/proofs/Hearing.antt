@@ -4,7 +4,7 @@ use Rattle.std.proofs.Common.{Err, Result, refl, sym, ap, subst, ◌∙◌}
 use Rattle.std.specs.Prelude.{◌||◌, IfOk, Option}
 use Rattle.ts_config.specs.declared.setup.Setup.{Setup}
 use Rattle.ts_config.specs.declared.fields.PluginLine.{PluginLine}
-use Rattle.ts_config.specs.declared.fields.PluginLine.TheVariants.{Deny, Header}
+use Rattle.ts_config.specs.declared.fields.PluginLine.TheVariants.{Deny, Header, SessionHeader}
 use Rattle.ts_config.specs.declared.fields.Side.{Side}
 use Rattle.ts_config.specs.declared.fields.Side.TheVariants as S
 use Rattle.ts_group.specs.Answers.{IsAnswer}
@@ -88,6 +88,7 @@ never_refuses : (side : Side) (line : PluginLine) (host : List ℕ) (fields : Li
 never_refuses S.Request (Deny sites) host fields is = cc
 never_refuses S.Response (Deny sites) host fields is = cc
 never_refuses side (Header of rule) host fields is = cc
+never_refuses side (SessionHeader of rule) host fields is = cc
 
 module _ (setup : Setup) (at place group : ℕ) where
   -- It let the host pass: those that are still to come decide.

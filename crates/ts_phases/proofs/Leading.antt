@@ -126,13 +126,13 @@ module _ {C O : Type 0} (t : Core C O) (table : HasTable t) (at : Hook) (place :
   -- the plugin that it has at a place is the one whose turn it is
   pub in_turn : (group : ℕ) → Some group ≡ slice_get (hook_list t.hooks at) place
       → IsNext at t.plugins_at (lines_of t) place group
-  in_turn group is = left_first at t.plugins_at (lines_of t) place group
-      (sym (is ∙ ap (λ (x : HookPlugins). slice_get (hook_list x at) place) table))
+  in_turn group is = left_first at t.plugins_at (lines_of t) place group table.ordered
+      (sym (is ∙ ap (λ (x : HookPlugins). slice_get (hook_list x at) place) table.table_is))
 
   -- where it has none, none is left
   pub all_asked : None ≡ slice_get (hook_list t.hooks at) place → lines_left at place (lines_of t) ≡ []
-  all_asked is = left_none at t.plugins_at (lines_of t) place
-      (sym (is ∙ ap (λ (x : HookPlugins). slice_get (hook_list x at) place) table))
+  all_asked is = left_none at t.plugins_at (lines_of t) place table.ordered
+      (sym (is ∙ ap (λ (x : HookPlugins). slice_get (hook_list x at) place) table.table_is))
 
 module _ {C O : Type 0} (client : link.Ghosts C) (origin : link.Ghosts O) (both : upstream.Ghosts O C) where
   -- ---- memory lacks, and nothing was done

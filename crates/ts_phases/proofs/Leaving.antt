@@ -33,8 +33,8 @@ module _ (v w : View) where
   same_origin : w.origin ≡ v.origin → LeavesOrigin v w
   same_origin same = record {
     taken = ap (λ (x : LinkSide). x.look.taken) same;
-    waits =
-        ap (λ (x : LinkSide). x.outbox) same;
+    carried = ap (λ (x : LinkSide). x.look.carried) same;
+    waits = ap (λ (x : LinkSide). x.outbox) same;
   }
 
   pub still_leaves : w ≡ v → LeavesOrigin v w
@@ -53,15 +53,15 @@ module _ (v w : View) where
   sought_leaves : (t : Bool) (found : Found ResponseHead) → t ≡ true
       → Seeks HasResponse LacksResponse t v.origin w.origin found → LeavesOrigin v w
   sought_leaves t (F.Head head) told seeks = record {
-    taken =
-        ap (λ (x : LinkSide). x.look.taken) seeks.2;
+    taken = ap (λ (x : LinkSide). x.look.taken) seeks.2;
+    carried = ap (λ (x : LinkSide). x.look.carried) seeks.2;
     waits = ap (λ (x : LinkSide). x.outbox) seeks.2;
   }
   sought_leaves t F.Never told seeks = same_origin seeks.1
   sought_leaves t (F.Read answer) told seeks = record {
     taken = (seeks.1.pulls.pulls.told told).taken;
-    waits =
-        seeks.1.outbox;
+    carried = seeks.1.pulls.pulls.calls.carried;
+    waits = seeks.1.outbox;
   }
   sought_leaves t F.NoMemory told seeks = same_origin seeks
 
@@ -86,6 +86,7 @@ module _ (v w : View) where
   leaves_uploads leaves = record {
     upload = [];
     taken = leaves.taken ∙ sym (append-nil v.origin.look.taken);
+    carried = leaves.carried ∙ sym (append-nil v.origin.look.carried);
     waits = leaves.waits;
   }
 
@@ -114,11 +115,12 @@ module _ (v w : View) where
   }
 
   -- an upload was moved
-  pub takes_upload : (ct ot : Bool) (refuses : List ℕ → Type 0) (answer : Uploaded) → ct ≡ true → ot ≡ true
+  pub takes_upload : (ct ot : Bool) (refuses : List ℕ → Type 0) (answer : Uploaded) → ot ≡ true
       → MovesUpload ct ot refuses answer v w → TakesUpload v w
-  takes_upload ct ot refuses answer told also moves = record {
-    upload = (moves.moves.bytes told also).origin_took.0;
-    taken = (moves.moves.bytes told also).origin_took.1;
+  takes_upload ct ot refuses answer told moves = record {
+    upload = (moves.moves.bytes.origin told).more;
+    taken = (moves.moves.bytes.origin told).taken;
+    carried = (moves.moves.bytes.origin told).carried;
     waits = ap (λ (x : LinkSide). x.outbox) moves.moves.others;
   }
 

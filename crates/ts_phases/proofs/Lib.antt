@@ -5,6 +5,7 @@ pub mod Going
 pub mod Hearing
 pub mod Leading
 pub mod Leaving
+pub mod Looked
 pub mod Lowering
 pub mod LoweringAnswers
 pub mod LoweringHeads
@@ -17,6 +18,7 @@ pub mod Minding
 pub mod OneSide
 pub mod Owed
 pub mod Owns
+pub mod Places
 pub mod Responding
 pub mod Sparing
 pub mod Uploading

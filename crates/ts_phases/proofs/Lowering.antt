@@ -14,7 +14,8 @@ use Rattle.ts_vconn.specs.declared.moves.Pushed.TheVariants as V
 use Rattle.ts_vconn.specs.MoveAnswers.{Came, Went}
 use Rattle.ts_phases.specs.View.{LinkSide}
 use Rattle.ts_phases.specs.Moving.{SideReads, SideWrites}
-use Rattle.ts_phases.specs.Lowering.{if_told, passes, to_ask, to_hear}
+use Rattle.ts_phases.specs.Lowering.{if_told, to_ask, to_hear}
+use Rattle.ts_passing.specs.Lines.{passes}
 
 -- ---- numbers that are told
 

@@ -15,7 +15,7 @@ use Rattle.ts_config.specs.declared.fields.Side.TheVariants as S
 use Rattle.ts_config.specs.declared.fields.Rule.{Rule}
 use Rattle.ts_config.specs.declared.fields.Rule.TheVariants.{Set, Add, Remove}
 use Rattle.ts_config.specs.declared.fields.PluginLine.{PluginLine}
-use Rattle.ts_config.specs.declared.fields.PluginLine.TheVariants.{Deny, Header}
+use Rattle.ts_config.specs.declared.fields.PluginLine.TheVariants.{Deny, Header, SessionHeader}
 use Rattle.ts_wire.specs.declared.fields.Field.{Field}
 use Rattle.ts_wire.specs.declared.heads.RequestHead.{RequestHead}
 use Rattle.ts_wire.specs.Check.{absolute_parts, after_authority, authority, begins_with_slash, check}
@@ -131,6 +131,7 @@ line_adds : (side : Side) (l : PluginLine) (fs : List Field)
     → AddsLine (plugin_length l) fs (after_line side fs l)
 line_adds side (Deny sites) fs = record { text = omega arith; count = omega arith }
 line_adds side (Header of rule) fs = side_adds (is_side side of) rule fs
+line_adds side (SessionHeader of rule) fs = side_adds (is_side side of) rule fs
 
 -- the fields after all lines: longer by what the lines say, and no more than one a line more
 pub record AddsLines (more lines : ℕ) (fs gs : List Field) : Type 0 where

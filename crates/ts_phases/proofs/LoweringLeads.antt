@@ -10,7 +10,6 @@ use Rattle.ts_phases.specs.Holding.{IfTold}
 use Rattle.ts_phases.specs.View.{View}
 use Rattle.ts_phases.specs.Moving.{LowersUpload, MovesUpload}
 use Rattle.ts_phases.specs.Steps.{AnswersOriginFault, AnswersRefusal, ClosesForClientFault, UploadLeads}
-use Rattle.ts_phases.specs.Steps.{UploadsOnce}
 use Rattle.ts_phases.specs.Lowering.{StepFalls, StepLowers, work_left}
 use Rattle.ts_phases.specs.declared.phase.Next.{Next}
 use Rattle.ts_phases.specs.declared.phase.Next.TheVariants as N
@@ -93,7 +92,3 @@ module _ (setup : Setup) (refuses : List ℕ → Type 0) (v w : View) (u u' : Op
     uploads_by ct ot answer moves lowers leads told also =
         leads_on answer (subst (λ (b : Bool). MovesUpload true b refuses answer v w) also
         (subst (λ (b : Bool). MovesUpload b ot refuses answer v w) told moves)) lowers leads
-
-    pub uploads_lower : (ct ot : Bool) → UploadsOnce ct ot refuses q u u' v w s
-        → IfTold ct ot (StepLowers setup (P.Upload q) u u' v w s)
-    uploads_lower ct ot once = uploads_by ct ot once.answer once.moves once.lowers once.leads

@@ -50,7 +50,7 @@ module _ (setup : Setup) (refuses : List ℕ → Type 0) (v w : View) (answer : 
   upload_hear = still_hear setup v.origin w.origin (same_length v.origin.inbox w.origin.inbox
       (ap (λ (s : LinkSide). s.inbox) moves.moves.others))
       (replaced_within v.origin.look.given v.origin.look.left w.origin.look.left
-      (moves.moves.bytes refl refl).origin_left)
+      (moves.moves.bytes.origin refl).left)
 
   -- an upload raises nothing
   pub upload_calm : (b : Bool) → AgainsFall b (agains_left v) (agains_left w) → Calm setup b v w

@@ -25,7 +25,7 @@ use Rattle.ts_phases.specs.Moving.{LowersUpload, MovesUpload, WritesOrigin}
 use Rattle.ts_phases.specs.Owed.{IsBadGateway, MayFollow, StepOwes}
 use Rattle.ts_phases.specs.Steps.{AnswersOriginFault, ClosesForClientFault, MindsLinks, MindsLinksIn}
 use Rattle.ts_phases.specs.Steps.{UploadLeads, WaitsRightly}
-use Rattle.ts_phases.specs.View.{View, refuses_if, upload_of, view_of}
+use Rattle.ts_phases.specs.View.{IsOneUpload, View, refuses_if, upload_of, view_of}
 use Rattle.ts_phases.specs.declared.head_reader.Found.{Found}
 use Rattle.ts_phases.specs.declared.head_reader.Found.TheVariants as F
 use Rattle.ts_phases.specs.declared.parts.Core.{Core}
@@ -47,19 +47,21 @@ use Rattle.ts_phases.proofs.Minding.{heard_request, heard_response, late_client,
 use Rattle.ts_phases.proofs.Minding.{lost_origin, origin_left, queued_own, queued_request}
 use Rattle.ts_phases.proofs.Minding.{wrote_client, wrote_origin}
 use Rattle.ts_phases.proofs.Sparing.{asked_gives, asked_spares, held_spares, queued_spares, sent_spares}
-use Rattle.ts_phases.proofs.Sparing.{spares_in, still_spares, upload_reads, wrote_spares}
+use Rattle.ts_phases.proofs.Sparing.{spares_in, still_spares, upload_spares, wrote_spares}
 use Rattle.ts_phases.proofs.Waiting.{asked_waits, client_waits, heard_waits, origin_waits}
 
 -- a transaction keeps what it is
-all_kept : {C O : Type 0} (client : link.Ghosts C) (origin : link.Ghosts O) (both : upstream.Ghosts O C)
+pub all_kept : {C O : Type 0} (client : link.Ghosts C) (origin : link.Ghosts O) (both : upstream.Ghosts O C)
     (t : Core C O) → StepKeeps client origin both t t
 all_kept client origin both t = record {
   number = refl;
   setup = refl;
   plugins_at = refl;
   hooks = refl;
-  client = record { source = refl; name = refl; plan = refl };
-  origin = record { source = refl; name = refl; plan = refl };
+  client = record { source = refl; name = refl; plan = refl; before = refl };
+  origin = record { source = refl; name = refl; plan = refl; before = refl };
+  client_still = λ l still. still;
+  origin_still = λ l still. still;
   client_base = refl;
   origin_base = refl;
   dialed = refl;
@@ -338,6 +340,7 @@ module _ {C O : Type 0} {client : link.Ghosts C} {origin : link.Ghosts O} {both 
 -- an upload was moved
 pub uploads : {C O : Type 0} {client : link.Ghosts C} {origin : link.Ghosts O} {both : upstream.Ghosts O C}
     {t u : Core C O} {s : Step} → StepKeeps client origin both t u → (q : Request) (answer : Uploaded)
+    → IsOneUpload both t u answer
     → MovesUpload client.tells origin.tells (refuses_if both.refuses t.origin) answer
     (view_of client origin t) (view_of client origin u)
     → LowersUpload answer (upload_of both t) (upload_of both u) (view_of client origin t)
@@ -345,7 +348,7 @@ pub uploads : {C O : Type 0} {client : link.Ghosts C} {origin : link.Ghosts O} {
     → UploadLeads answer q s → MayFollow (lines_of t) (P.Upload q) s.phase
     → WaitsRightly s.next (view_of client origin t) (view_of client origin u)
     → StepOwes client origin both t u (P.Upload q) s
-uploads {C} {O} {client} {origin} {both} {t} {u} {s} keeps q answer moves lowers leads follows waits =
+uploads {C} {O} {client} {origin} {both} {t} {u} {s} keeps q answer one moves lowers leads follows waits =
     record {
       follows = follows;
       causes = stands_on (view_of client origin t) (view_of client origin u) (P.Upload q) s.phase
@@ -353,13 +356,13 @@ uploads {C} {O} {client} {origin} {both} {t} {u} {s} keeps q answer moves lowers
           (refuses_if both.refuses t.origin) answer moves)
           (λ has ends. upload_cause (view_of client origin t) (view_of client origin u) client.tells
           origin.tells (refuses_if both.refuses t.origin) q s answer leads moves has);
-      minds = record { answer = answer; moves = moves; lowers = lowers; leads = leads };
+      minds = record { answer = answer; one = one; moves = moves; lowers = lowers; leads = leads };
       waits = waits;
       leaves = λ told also. record {
         origin = takes_upload (view_of client origin t) (view_of client origin u) client.tells origin.tells
-            (refuses_if both.refuses t.origin) answer told also moves;
-        client = upload_reads (view_of client origin t) (view_of client origin u) client.tells origin.tells
-            (refuses_if both.refuses t.origin) answer told also moves;
+            (refuses_if both.refuses t.origin) answer also moves;
+        client = upload_spares (view_of client origin t) (view_of client origin u) client.tells origin.tells
+            (refuses_if both.refuses t.origin) answer told moves;
       };
       keeps = keeps;
     }

@@ -73,23 +73,46 @@ final_more bytes h rest more f = record {
 less_held : (new old most : ℕ) → new < old → old ≤ most → new ≤ most
 less_held new old most less held = omega (arith, less, held)
 
+-- a side took nothing, of an upload either, and the same waits for it
+pub record TakesNothing (o s : LinkSide) : Type 0 where
+  pub taken : s.look.taken ≡ o.look.taken
+  pub carried : s.look.carried ≡ o.look.carried
+  pub uploaded : s.look.uploaded ≡ o.look.uploaded
+  pub waits : s.outbox ≡ o.outbox
+
+-- so it is with one of which some was used
+pub used_takes_nothing : (o : LinkSide) (i : List ℕ) → TakesNothing o (record o { inbox = i })
+used_takes_nothing o i = record { taken = refl; carried = refl; uploaded = refl; waits = refl }
+
+-- and with one that was read
+pub read_takes_nothing : (t : Bool) (o s : LinkSide) (p : Pulled) → t ≡ true → SideReads t o s p
+    → TakesNothing o s
+read_takes_nothing t o s p told reads = record {
+  taken = (reads.pulls.pulls.told told).taken;
+  carried = reads.pulls.pulls.calls.carried;
+  uploaded = reads.pulls.pulls.calls.uploaded;
+  waits = reads.outbox;
+}
+
 module _ (setup : Setup) (refuses : Type 0) where
-  -- the origin keeps what it took, and what waits for it
+  -- the origin keeps what it took, also of the upload, and what waits for it
   pub served_as : (c : List ℕ) (q : Request) (dialed : Bool) (o s : LinkSide) → s.base ≤ s.look.faults
-      → s.look.taken ≡ o.look.taken → s.outbox ≡ o.outbox
-      → Served setup refuses c q dialed o → Served setup refuses c q dialed s
-  served_as c q dialed o s count taken waits h = record {
-    goes = h.goes;
-    accepts = h.accepts;
-    count = count;
-    carries = record {
-      upload = h.carries.upload;
-      text = ap (λ (x : List ℕ). x ++ s.outbox) taken ∙ ap (λ (x : List ℕ). o.look.taken ++ x) waits
-          ∙ h.carries.text;
-      behind = λ some. h.carries.behind (λ none. some (waits ∙ none));
-    };
-    no_waits = waits ∙ h.no_waits;
-  }
+      → TakesNothing o s → Served setup refuses c q dialed o → Served setup refuses c q dialed s
+  served_as c q dialed o s count same h =
+      let text = request_text setup q.head q.target q.host in
+      record {
+        goes = h.goes;
+        accepts = h.accepts;
+        uploaded = same.uploaded ∙ h.uploaded;
+        count = count;
+        carries = record {
+          text = ap (λ (x : List ℕ). x ++ s.outbox) same.taken
+              ∙ ap (λ (x : List ℕ). o.look.taken ++ x) same.waits ∙ h.carries.text
+              ∙ ap (λ (x : List ℕ). text ++ x) (sym same.carried);
+          behind = λ some. same.carried ∙ h.carries.behind (λ none. some (same.waits ∙ none));
+        };
+        no_waits = same.waits ∙ h.no_waits;
+      }
 
   pub awaits_any : (v : View) (q : Request) → AwaitsFinal setup refuses v q → AnyEnd setup refuses v
   awaits_any v q h = record {
@@ -124,7 +147,8 @@ module _ (setup : Setup) (refuses : Type 0) where
         record {
           waits = h.waits;
           served = served_as (all_of v.client.look) q v.dialed v.origin s
-              (read_count t v.origin s p reads h.served.count) gives.taken reads.outbox h.served;
+              (read_count t v.origin s p reads h.served.count)
+              (read_takes_nothing t v.origin s p told reads) h.served;
           passed = subst (λ (g : List ℕ). PassesInterims g s.inbox) (sym gives.given)
               (subst (λ (i : List ℕ). PassesInterims (v.origin.look.given ++ reads.pulls.more) i)
               (sym reads.pulls.grows)
@@ -150,7 +174,7 @@ module _ (setup : Setup) (refuses : Type 0) where
     responds_at i head has less = record {
       waits = h.waits;
       served = served_as (all_of v.client.look) q v.dialed v.origin (record v.origin { inbox = i })
-          h.served.count refl refl h.served;
+          h.served.count (used_takes_nothing v.origin i) h.served;
       from = v.origin.inbox;
       passed = h.passed;
       has = has;
@@ -211,7 +235,8 @@ module _ (setup : Setup) (refuses : Type 0) where
               (gone_block setup w.dialed refuses (all_of w.origin.look) (all_of w.client.look) q
               (own_block setup text O.BadGateway (asks_head q.head))
               served.goes (inr (served.accepts, lacking lacks refl)))
-              refl (took_request setup q w.origin served.carries served.no_waits);
+              refl (took_request setup refuses q w.origin served.carries served.no_waits
+              (inl served.uploaded));
           took = facts.request q served.goes served.carries;
         })
 

@@ -1,4 +1,4 @@
--- The calls of a step that read nothing of the client, and those that read its request and its upload.
+-- The calls of a step that read nothing of the client, and those that read its request.
 use Rattle.std.proofs.Common.{◌≡◌, ◌++◌, ◌∙◌, List, [], ℕ, Bool, true, ap, sym}
 use Rattle.std.proofs.lemmas.List.{append-nil}
 use Rattle.ts_upstream.specs.declared.upstream.Uploaded.{Uploaded}
@@ -10,7 +10,7 @@ use Rattle.ts_block.specs.Heads.{HasRequest}
 use Rattle.ts_phases.specs.View.{LinkSide, View}
 use Rattle.ts_phases.specs.Moving.{MovesUpload, QueuesOwn, QueuesRequest, Seeks, SeeksRequest, SeeksResponse}
 use Rattle.ts_phases.specs.Moving.{WritesClient, WritesOrigin}
-use Rattle.ts_phases.specs.Steps.{GivesOn, LeavesClient, LeavesClientIn, UploadReads}
+use Rattle.ts_phases.specs.Steps.{GivesOn, LeavesClient, LeavesClientIn}
 use Rattle.ts_phases.specs.declared.head_reader.Found.{Found}
 use Rattle.ts_phases.specs.declared.head_reader.Found.TheVariants as F
 use Rattle.ts_phases.specs.declared.phase.Phase.{Phase}
@@ -19,9 +19,9 @@ use Rattle.ts_phases.specs.declared.phase.Phase.TheVariants as P
 module _ (v w : View) where
   same_client : w.client ≡ v.client → LeavesClient v w
   same_client same = record {
+    reads = ap (λ (x : LinkSide). x.look.reads) same;
     given = ap (λ (x : LinkSide). x.look.given) same;
-    held =
-        ap (λ (x : LinkSide). x.inbox) same;
+    held = ap (λ (x : LinkSide). x.inbox) same;
   }
 
   pub still_spares : w ≡ v → LeavesClient v w
@@ -38,16 +38,16 @@ module _ (v w : View) where
 
   pub queued_spares : (head body : List ℕ) → QueuesOwn head body v w → LeavesClient v w
   queued_spares head body queues = record {
+    reads = ap (λ (x : LinkSide). x.look.reads) queues.client;
     given = ap (λ (x : LinkSide). x.look.given) queues.client;
-    held =
-        ap (λ (x : LinkSide). x.inbox) queues.client;
+    held = ap (λ (x : LinkSide). x.inbox) queues.client;
   }
 
   pub wrote_spares : (t : Bool) (p : Pushed) → t ≡ true → WritesClient t v w p → LeavesClient v w
   wrote_spares t p told writes = record {
+    reads = writes.client.pushes.once.reads;
     given = (writes.client.pushes.told told).given;
-    held =
-        writes.client.inbox;
+    held = writes.client.inbox;
   }
 
   -- ---- what is read
@@ -59,7 +59,6 @@ module _ (v w : View) where
   -- in any phase
   pub spares_in : (p : Phase) → LeavesClient v w → LeavesClientIn p v w
   spares_in P.ReadRequest spares = spares_gives spares
-  spares_in (P.Upload q) spares = record { gives = spares_gives spares; held = spares.held }
   spares_in _ spares = spares
 
   -- a head was looked for
@@ -78,10 +77,11 @@ module _ (v w : View) where
       → GivesOn v w
   asked_gives t found told hears = sought_gives t found told hears.finds
 
-  -- an upload was moved
-  pub upload_reads : (ct ot : Bool) (refuses : List ℕ → Type 0) (answer : Uploaded) → ct ≡ true → ot ≡ true
-      → MovesUpload ct ot refuses answer v w → UploadReads v w
-  upload_reads ct ot refuses answer told also moves = record {
-    gives = (moves.moves.bytes told also).gave;
+  -- an upload was moved, which the client's link shows as no read
+  pub upload_spares : (ct ot : Bool) (refuses : List ℕ → Type 0) (answer : Uploaded) → ct ≡ true
+      → MovesUpload ct ot refuses answer v w → LeavesClient v w
+  upload_spares ct ot refuses answer told moves = record {
+    reads = moves.moves.keeps.reads;
+    given = (moves.moves.bytes.client told).given;
     held = ap (λ (x : View). x.client.inbox) moves.others;
   }

@@ -1,10 +1,9 @@
 -- The phase in which the origin's link moves an upload: where each answer leads.
 use Rattle.std.proofs.Common.{◌≡◌, ℕ, ◌≤◌, List, [], ◌++◌, Bool, true, arith, refl, sym, ap, subst, ◌∙◌}
-use Rattle.std.proofs.Common.{append_assoc, inl, length, ◌≢◌, length-append}
+use Rattle.std.proofs.Common.{append_assoc, inl, inr, length, ◌≢◌, ◌⊎◌, length-append}
 use Rattle.std.proofs.lemmas.List.{append-nil}
 use Rattle.std.proofs.Math.Nat.{le_trans}
 use Rattle.std.specs.Prelude.{codes, flat_map}
-use Rattle.ts_lists.proofs.Sizes.{front_not_empty}
 use Rattle.ts_config.specs.declared.setup.Setup.{Setup}
 use Rattle.ts_config.specs.declared.fields.Side.TheVariants as S
 use Rattle.ts_hooks.specs.declared.txn_end.TxnEnd.TheVariants as E
@@ -12,7 +11,7 @@ use Rattle.ts_link.specs.Counts.{Rose}
 use Rattle.ts_link.specs.Link.{Look, all_of}
 use Rattle.ts_upstream.specs.declared.upstream.Uploaded.{Uploaded}
 use Rattle.ts_upstream.specs.declared.upstream.Uploaded.TheVariants as U
-use Rattle.ts_upstream.specs.Uploads.{UploadKeeps, Uploads}
+use Rattle.ts_upstream.specs.Uploads.{UploadKeeps, UploadsClient, UploadsOrigin}
 use Rattle.ts_wire.specs.Check.{is_absolute}
 use Rattle.ts_wire.specs.Forward.{forwarded}
 use Rattle.ts_wire.specs.Limits.{head_limit}
@@ -46,29 +45,30 @@ none_held : (held : List ℕ) → held ≡ [] → length held ≤ head_limit
 none_held held none = let no : length held ≡ 0 = ap length none in omega (arith, no)
 
 -- what the origin took is the request and the upload, where nothing waits for it
-took_is : (setup : Setup) (q : Request) (o : LinkSide) (h : CarriesRequest setup q o) → o.outbox ≡ []
-    → o.look.taken ≡ request_text setup q.head q.target q.host ++ h.upload
+took_is : (setup : Setup) (q : Request) (o : LinkSide) → CarriesRequest setup q o → o.outbox ≡ []
+    → o.look.taken ≡ request_text setup q.head q.target q.host ++ o.look.carried
 took_is setup q o h none = sym (append-nil o.look.taken) ∙ ap (λ (x : List ℕ). o.look.taken ++ x) (sym none)
     ∙ h.text
 
-pub took_request : (setup : Setup) (q : Request) (o : LinkSide) → CarriesRequest setup q o → o.outbox ≡ []
-    → TookExactly (request_text setup q.head q.target q.host) o
-took_request setup q o h none = record {
-  upload = h.upload;
+-- the upload was moved, or is refused
+pub took_request : (setup : Setup) (refuses : Type 0) (q : Request) (o : LinkSide)
+    → CarriesRequest setup q o → o.outbox ≡ [] → (o.look.uploaded ≡ true) ⊎ refuses
+    → TookExactly refuses (request_text setup q.head q.target q.host) o
+took_request setup refuses q o h none moved = record {
   text = took_is setup q o h none;
-  nothing =
-      λ is. absurd (filled setup q is);
+  nothing = λ is. absurd (filled setup q is);
+  uploaded = λ some. moved;
   no_waits = none;
 }
 
 uploads_at : (setup : Setup) (v : View) (c l : Look) (q : Request) → Uploading setup v q
-    → Uploads v.client.look c v.origin.look l → UploadKeeps v.client.look c v.origin.look l
+    → UploadsClient v.client.look c → UploadsOrigin v.origin.look l → UploadKeeps v.client.look c v.origin.look l
     → Uploading setup (record v {
       client = record v.client { look = c };
       origin =
           record v.origin { look = l };
     }) q
-uploads_at setup v c l q h u keeps =
+uploads_at setup v c l q h of_client of_origin keeps =
     let text = request_text setup q.head q.target q.host in
     let before = took_is setup q v.origin h.carries h.no_waits in
     let un = h.unanswered in
@@ -76,19 +76,19 @@ uploads_at setup v c l q h u keeps =
       unanswered = record {
         waits = record {
           count = le_trans un.waits.count keeps.client.faults;
-          quiet = quiet_as v.client (record v.client { look = c }) v.sent u.client_took refl un.waits.quiet;
-          some = λ is. front_not_empty v.client.look.given u.gave.0 un.waits.some (sym u.gave.1 ∙ is);
+          quiet = quiet_as v.client (record v.client { look = c }) v.sent of_client.taken refl un.waits.quiet;
+          some = λ is. un.waits.some (sym of_client.given ∙ is);
         };
-        goes = subst (λ (x : List ℕ). Goes setup x q v.dialed) (sym u.client) un.goes;
+        goes = subst (λ (x : List ℕ). Goes setup x q v.dialed) (sym of_client.all) un.goes;
         count = le_trans un.count keeps.origin.faults;
-        no_given = u.origin_gave ∙ un.no_given;
+        no_given = of_origin.given ∙ un.no_given;
         no_held = un.no_held;
       };
       carries = record {
-        upload = h.carries.upload ++ u.origin_took.0;
-        text = ap (λ (x : List ℕ). l.taken ++ x) h.no_waits ∙ append-nil l.taken ∙ u.origin_took.1
-            ∙ ap (λ (x : List ℕ). x ++ u.origin_took.0) before
-            ∙ append_assoc text h.carries.upload u.origin_took.0;
+        text = ap (λ (x : List ℕ). l.taken ++ x) h.no_waits ∙ append-nil l.taken ∙ of_origin.taken
+            ∙ ap (λ (x : List ℕ). x ++ of_origin.more) before
+            ∙ append_assoc text v.origin.look.carried of_origin.more
+            ∙ ap (λ (x : List ℕ). text ++ x) (sym of_origin.carried);
         behind = λ some. absurd (some h.no_waits);
       };
       no_waits = h.no_waits;
@@ -105,7 +105,7 @@ module _ (setup : Setup) (ct ot : Bool) (refuses : List ℕ → Type 0) (v w : V
         origin = s;
       }) m.moves.others in
       subst (λ (x : View). Uploading setup x q) (sym all) (uploads_at setup v w.client.look w.origin.look q h
-      (m.moves.bytes client origin) m.moves.keeps)
+      (m.moves.bytes.client client) (m.moves.bytes.origin origin) m.moves.keeps)
 
   -- all of it was
   pub uploaded : MovesUpload ct ot refuses U.Done v w
@@ -117,6 +117,7 @@ module _ (setup : Setup) (ct ot : Bool) (refuses : List ℕ → Type 0) (v w : V
         served = record {
           goes = now.unanswered.goes;
           accepts = m.moves.causes.refusal client;
+          uploaded = m.moves.causes.ends;
           count =
               now.unanswered.count;
           carries = now.carries;
@@ -140,7 +141,8 @@ module _ (setup : Setup) (ct ot : Bool) (refuses : List ℕ → Type 0) (v w : V
             (gone_block setup w.dialed (refuses v.client.look.source) (all_of w.origin.look)
             (all_of w.client.look) q (own_block setup text O.BadRequest (asks_head q.head))
             now.unanswered.goes (inl (m.moves.causes.refusal client, refl)))
-            refl (took_request setup q w.origin now.carries now.no_waits);
+            refl (took_request setup (refuses v.client.look.source) q w.origin now.carries now.no_waits
+            (inr (m.moves.causes.refusal client)));
         took = facts.request q now.unanswered.goes now.carries;
       })
 

@@ -111,7 +111,7 @@ module _ (setup : Setup) (refuses : Type 0) where
   pub record HasBlock (v : View) (end : TxnEnd) (block : Block) : Type 0 where
     pub is_block : IsBlock setup v.dialed refuses (all_of v.origin.look) (all_of v.client.look) block
     pub ends : block.end ≡ end
-    pub took : TookExactly block.request v.origin
+    pub took : TookExactly refuses block.request v.origin
     pub no_waits : v.client.outbox ≡ []
     pub mode : v.sent.mode ≡ block.mode
 

@@ -2,7 +2,7 @@
 -- links that tell (Developer's Guide, "HTTP Hooks and Transactions"; RFC 9110, section 7.6, and RFC 9112,
 -- section 9.3). Each fact is said of the parts that it speaks of, so that it stays where another part
 -- changes. In all of them `c` is all that the client gives.
-use Rattle.std.specs.Prelude.{◌≡◌, ◌≢◌, ℕ, ◌≤◌, ◌++◌, List, [], length, Bool, true, false, Ok}
+use Rattle.std.specs.Prelude.{◌≡◌, ◌≢◌, ℕ, ◌≤◌, ◌++◌, ◌⊎◌, List, [], length, Bool, true, false, Ok}
 use Rattle.ts_config.specs.declared.setup.Setup.{Setup}
 use Rattle.ts_config.specs.declared.fields.Side.{Side}
 use Rattle.ts_hooks.specs.declared.hook.Hook.TheVariants as hook
@@ -45,6 +45,7 @@ pub record ClientWaits (client : LinkSide) (sent : Sent) : Type 0 where
 pub record Untouched (origin : LinkSide) : Type 0 where
   pub count : HasCount origin
   pub no_taken : origin.look.taken ≡ []
+  pub no_carried : origin.look.carried ≡ []
   pub no_waits : origin.outbox ≡ []
   pub no_given : origin.look.given ≡ []
   pub no_held : origin.inbox ≡ []
@@ -72,11 +73,12 @@ pub record PassesCheck (v : View) (q : Request) : Type 0 where
   pub untouched : Untouched v.origin
   pub knows : Knows (all_of v.client.look) q
 
--- the origin took exactly this request and what an upload wrote behind it
-pub record TookExactly (request : List ℕ) (origin : LinkSide) : Type 0 where
-  pub upload : List ℕ
-  pub text : origin.look.taken ≡ request ++ upload
-  pub nothing : request ≡ [] → upload ≡ []
+-- The origin took exactly this request and what the upload wrote behind it; of a request that is not empty no
+-- upload is left to move, or it is refused.
+pub record TookExactly (refuses : Type 0) (request : List ℕ) (origin : LinkSide) : Type 0 where
+  pub text : origin.look.taken ≡ request ++ origin.look.carried
+  pub nothing : request ≡ [] → origin.look.carried ≡ []
+  pub uploaded : request ≢ [] → (origin.look.uploaded ≡ true) ⊎ refuses
   pub no_waits : origin.outbox ≡ []
 
 module _ (setup : Setup) where
@@ -108,12 +110,12 @@ module _ (setup : Setup) where
 
   -- THE REQUEST IS SENT
 
-  -- What the origin took, with what waits for it, is the request's head and what an upload wrote behind it,
+  -- What the origin took, with what waits for it, is the request's head and what the upload wrote behind it,
   -- once the head was written.
   pub record CarriesRequest (q : Request) (origin : LinkSide) : Type 0 where
-    pub upload : List ℕ
-    pub text : origin.look.taken ++ origin.outbox ≡ request_text setup q.head q.target q.host ++ upload
-    pub behind : origin.outbox ≢ [] → upload ≡ []
+    pub text : origin.look.taken ++ origin.outbox
+        ≡ request_text setup q.head q.target q.host ++ origin.look.carried
+    pub behind : origin.outbox ≢ [] → origin.look.carried ≡ []
 
   -- the origin of the request has given nothing yet
   pub record IsUnanswered (v : View) (q : Request) : Type 0 where
@@ -127,6 +129,7 @@ module _ (setup : Setup) where
   pub record SendingRequest (v : View) (q : Request) : Type 0 where
     pub unanswered : IsUnanswered v q
     pub text : v.origin.look.taken ++ v.origin.outbox ≡ request_text setup q.head q.target q.host
+    pub no_carried : v.origin.look.carried ≡ []
 
   -- its upload is
   pub record Uploading (v : View) (q : Request) : Type 0 where
@@ -152,10 +155,11 @@ module _ (setup : Setup) where
   module _ (refuses : Type 0) where
     -- THE RESPONSE HEAD IS READ
 
-    -- the origin has all that it gets, and its answer counts
+    -- the origin has all that it gets, also of the upload, and its answer counts
     pub record Served (c : List ℕ) (q : Request) (dialed : Bool) (origin : LinkSide) : Type 0 where
       pub goes : Goes c q dialed
       pub accepts : refuses → ⊥
+      pub uploaded : origin.look.uploaded ≡ true
       pub count : HasCount origin
       pub carries : CarriesRequest q origin
       pub no_waits : origin.outbox ≡ []
@@ -182,7 +186,7 @@ module _ (setup : Setup) where
     pub data OwnCause (c : List ℕ) (dialed : Bool) (origin : LinkSide) (a : OwnAnswer) : Type 0 where
       decided : (request : List ℕ)
           → IsBlock setup dialed refuses (all_of origin.look) c (own_block setup request a.status a.to_head)
-          → a.end ≡ E.Whole → TookExactly request origin → OwnCause c dialed origin a
+          → a.end ≡ E.Whole → TookExactly refuses request origin → OwnCause c dialed origin a
       fault : (q : Request) → Goes c q dialed → a.status ≡ O.BadGateway → a.to_head ≡ asks_head q.head
           → a.end ≡ E.OriginFault → HasFailed origin → LacksFinal origin.look.given
           → OwnCause c dialed origin a

@@ -7,10 +7,11 @@ use Rattle.ts_link.specs.Link.{Look}
 use Rattle.ts_link.specs.declared.link.Link as link
 use Rattle.ts_upstream.specs.declared.upstream.Upstream as upstream
 use Rattle.ts_upstream.specs.Uploads.{SameRefusal}
-use Rattle.ts_phases.specs.View.{IsPaired, OriginRefuses, View, is_dialed, refuses_if, side_if, view_of}
+use Rattle.ts_phases.specs.View.{IsPaired, OriginRefuses, StaysLink, StaysLinkIf, View, is_dialed}
+use Rattle.ts_phases.specs.View.{refuses_if, side_if, view_of}
 use Rattle.ts_wire.specs.Forward.{forwarded}
 use Rattle.ts_block.specs.Own.{own_field}
-use Rattle.ts_plugin.specs.Lines.{table_of}
+use Rattle.ts_plugin.specs.Lines.{IsTableOf}
 use Rattle.ts_phases.specs.Facts.{IsAllowed, IsRuledTo, Asking, AwaitsFinal, PassesCheck, PassesDeny}
 use Rattle.ts_phases.specs.Facts.{OwnReady, OwnSends, Relays, SendingRequest, Uploading}
 use Rattle.ts_phases.specs.Ends.{EndFact}
@@ -43,9 +44,9 @@ module _ (setup : Setup) (refuses : Type 0) where
   PhaseFact v (P.TxnClose end) = EndFact setup refuses v end
   PhaseFact v (P.Ended end) = EndFact setup refuses v end
 
--- its hook table is that of its configuration's plugin lines
+-- its hook table is that of its configuration's plugin lines, which stand in the order in which they act
 abbrev pub HasTable : {C O : Type 0} → Core C O → Type 0
-HasTable t = t.hooks ≡ table_of t.plugins_at (arc_value t.setup).plugins.items
+HasTable t = IsTableOf t.plugins_at (arc_value t.setup).plugins.items t.hooks
 
 -- both links tell their bytes
 abbrev pub IfTold : Bool → Bool → Type 0 → Type 0
@@ -67,8 +68,9 @@ pub record IsSameLink (old new : Look) : Type 0 where
   pub source : new.source ≡ old.source
   pub name : new.name ≡ old.name
   pub plan : new.plan ≡ old.plan
+  pub before : new.before ≡ old.before
 
--- what every step leaves as it is
+-- what every step leaves as it is: both links are still those that they were before it
 pub record StepKeeps {C O : Type 0} (client_link : link.Ghosts C) (origin_link : link.Ghosts O)
     (both : upstream.Ghosts O C) (old new : Core C O) : Type 0 where
   pub number : new.number ≡ old.number
@@ -78,6 +80,8 @@ pub record StepKeeps {C O : Type 0} (client_link : link.Ghosts C) (origin_link :
   pub client : IsSameLink (client_link.look old.client.link) (client_link.look new.client.link)
   pub origin : IsSameLink (side_if origin_link.look old.origin).look
       (side_if origin_link.look new.origin).look
+  pub client_still : StaysLink client_link.still old.client.link new.client.link
+  pub origin_still : StaysLinkIf origin_link.still old.origin new.origin
   pub client_base : new.client.base ≡ old.client.base
   pub origin_base : (side_if origin_link.look new.origin).base ≡ (side_if origin_link.look old.origin).base
   pub dialed : is_dialed new.origin ≡ is_dialed old.origin

@@ -10,6 +10,7 @@ pub mod Leading
 pub mod Lowering
 pub mod Moving
 pub mod Owed
+pub mod Place
 pub mod RelayMoves
 pub mod Steps
 pub mod View

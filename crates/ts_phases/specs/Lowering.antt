@@ -4,12 +4,10 @@
 use Rattle.std.specs.Prelude.{◌≡◌, ℕ, ◌+◌, ◌*◌, List, [], ◌∷◌, length, Option, Some, None}
 use Rattle.std.specs.Arc.{arc_value}
 use Rattle.ts_config.specs.declared.setup.Setup.{Setup}
-use Rattle.ts_config.specs.declared.setup.TransformLine.{TransformLine}
-use Rattle.ts_config.specs.declared.setup.TransformLine.TheVariants as t
 use Rattle.ts_config.specs.declared.fields.Rule.{Rule}
 use Rattle.ts_config.specs.declared.fields.Rule.TheVariants.{Set, Add, Remove}
 use Rattle.ts_config.specs.declared.fields.PluginLine.{PluginLine}
-use Rattle.ts_config.specs.declared.fields.PluginLine.TheVariants.{Deny, Header}
+use Rattle.ts_config.specs.declared.fields.PluginLine.TheVariants.{Deny, Header, SessionHeader}
 use Rattle.ts_group.specs.declared.world.Asked.{Asked}
 use Rattle.ts_group.specs.declared.world.Asked.TheVariants as A
 use Rattle.ts_hooks.specs.declared.hook.Hook.{Hook}
@@ -19,6 +17,7 @@ use Rattle.ts_link.specs.Link.{Fewer, NoMore}
 use Rattle.ts_link.specs.declared.link.Link as link
 use Rattle.ts_upstream.specs.declared.upstream.Upstream as upstream
 use Rattle.ts_upstream.specs.Uploads.{Rose8, both, taken_since}
+use Rattle.ts_passing.specs.Lines.{lines_length, passes}
 use Rattle.ts_wire.specs.Limits.{field_limit, head_limit}
 use Rattle.ts_block.specs.Block.{own_text, request_text}
 use Rattle.ts_block.specs.Own.{own_body}
@@ -61,25 +60,11 @@ rule_length (Remove name) = 0
 abbrev pub plugin_length : PluginLine → ℕ
 plugin_length (Deny sites) = 0
 plugin_length (Header side rule) = rule_length rule
+plugin_length (SessionHeader side rule) = rule_length rule
 
 abbrev pub plugins_length : List PluginLine → ℕ
 plugins_length [] = 0
 plugins_length (l ∷ ls) = plugin_length l + plugins_length ls
-
--- the text that a transform line adds
-abbrev pub line_length : TransformLine → ℕ
-line_length (t.Append file text) = length text
-line_length (t.Prepend text) = length text
-line_length _ = 0
-
-abbrev pub lines_length : List TransformLine → ℕ
-lines_length [] = 0
-lines_length (l ∷ ls) = line_length l + lines_length ls
-
--- so many bytes pass the boundary before each line's stage, and the client's
-abbrev pub passes : List TransformLine → ℕ → ℕ
-passes [] bytes = bytes
-passes (l ∷ ls) bytes = bytes + passes ls bytes
 
 -- A HEAD IS NO LONGER THAN THIS
 

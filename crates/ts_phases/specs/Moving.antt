@@ -46,12 +46,11 @@ abbrev pub cuts_of : List ℕ → List ℕ
 cuts_of [] = []
 cuts_of (b ∷ bs) = length (b ∷ bs) ∷ []
 
--- Some of the upload of a request was moved, by calls that are made on the two links alone. What they gave
--- and took is known where both tell.
+-- Some of the upload of a request was moved, by calls that are made on the two links alone.
 pub record MovesBoth (ctells otells : Bool) (refuses : List ℕ → Type 0) (answer : Uploaded) (c d : Look)
     (o p : LinkSide) : Type 0 where
   pub causes : UploadCauses ctells refuses answer c d o.look p.look
-  pub bytes : ctells ≡ true → otells ≡ true → Uploads c d o.look p.look
+  pub bytes : Uploads ctells otells c d o.look p.look
   pub keeps : UploadKeeps c d o.look p.look
   pub others : p ≡ record o { look = p.look }
 

@@ -9,7 +9,7 @@ use Rattle.ts_upstream.specs.declared.upstream.Upstream as upstream
 use Rattle.ts_upstream.specs.declared.upstream.Uploaded.{Uploaded}
 use Rattle.ts_upstream.specs.declared.upstream.Uploaded.TheVariants as U
 use Rattle.ts_phases.specs.Moving.{LowersUpload, MovesUpload}
-use Rattle.ts_phases.specs.View.{View, refuses_if, upload_of, view_of}
+use Rattle.ts_phases.specs.View.{IsOneUpload, View, refuses_if, upload_of, view_of}
 use Rattle.ts_phases.specs.declared.parts.Core.{Core}
 use Rattle.ts_phases.specs.declared.phase.Request.{Request}
 use Rattle.ts_block.specs.declared.own_answer.OwnStatus.TheVariants as O
@@ -45,6 +45,7 @@ pub record MindsLinks (v w : View) (s : Step) : Type 0 where
 -- nothing is sent to the origin
 pub record LeavesOrigin (v w : View) : Type 0 where
   pub taken : w.origin.look.taken ≡ v.origin.look.taken
+  pub carried : w.origin.look.carried ≡ v.origin.look.carried
   pub waits : w.origin.outbox ≡ v.origin.outbox
 
 -- a text waits for the origin behind what did, and the origin takes nothing
@@ -63,6 +64,7 @@ pub record MovesOutbox (v w : View) : Type 0 where
 pub record TakesUpload (v w : View) : Type 0 where
   pub upload : List ℕ
   pub taken : w.origin.look.taken ≡ v.origin.look.taken ++ upload
+  pub carried : w.origin.look.carried ≡ v.origin.look.carried ++ upload
   pub waits : w.origin.outbox ≡ v.origin.outbox
 
 -- Something is in four phases alone: the request's head is queued in two, and only moved on in the third; and
@@ -91,9 +93,10 @@ UploadLeads U.Refused q s = AnswersRefusal s.phase
 UploadLeads U.NoMemory q s = s ≡ record { phase = P.Ended E.NoMemory; next = N.Done }
 
 -- one upload was made, and its answer decides where the step leads
-pub record UploadsOnce (client origin : Bool) (refuses : List ℕ → Type 0) (q : Request)
-    (left left_then : Option ℕ) (v w : View) (s : Step) : Type 0 where
+pub record UploadsOnce (client origin : Bool) (refuses : List ℕ → Type 0) (once : Uploaded → Type 0)
+    (q : Request) (left left_then : Option ℕ) (v w : View) (s : Step) : Type 0 where
   pub answer : Uploaded
+  pub one : once answer
   pub moves : MovesUpload client origin refuses answer v w
   pub lowers : LowersUpload answer left left_then v w
   pub leads : UploadLeads answer q s
@@ -103,8 +106,8 @@ module _ {C O : Type 0} (client : link.Ghosts C) (origin : link.Ghosts O) (pair 
   -- a link's fault and a link that was not ready decide where a step leads; in an upload its answer does; and
   -- one that closes ends so
   abbrev pub MindsLinksIn : Phase → Step → Type 0
-  MindsLinksIn (P.Upload q) s = UploadsOnce client.tells origin.tells (refuses_if pair.refuses t.origin) q
-      (upload_of pair t) (upload_of pair u)
+  MindsLinksIn (P.Upload q) s = UploadsOnce client.tells origin.tells (refuses_if pair.refuses t.origin)
+      (IsOneUpload pair t u) q (upload_of pair t) (upload_of pair u)
       (view_of client origin t) (view_of client origin u) s
   MindsLinksIn (P.TxnClose end) s = MindsLinks (view_of client origin t) (view_of client origin u) s
       × (s ≡ record { phase = P.Ended end; next = N.Done })
@@ -112,6 +115,7 @@ module _ {C O : Type 0} (client : link.Ghosts C) (origin : link.Ghosts O) (pair 
 
 -- nothing is read of the client, and what it gave is kept
 pub record LeavesClient (v w : View) : Type 0 where
+  pub reads : w.client.look.reads ≡ v.client.look.reads
   pub given : w.client.look.given ≡ v.client.look.given
   pub held : w.client.inbox ≡ v.client.inbox
 
@@ -119,15 +123,9 @@ pub record LeavesClient (v w : View) : Type 0 where
 abbrev pub GivesOn : View → View → Type 0
 GivesOn v w = (more : List ℕ) × (w.client.look.given ≡ v.client.look.given ++ more)
 
--- an upload read of it, and what it gave before is kept
-pub record UploadReads (v w : View) : Type 0 where
-  pub gives : GivesOn v w
-  pub held : w.client.inbox ≡ v.client.inbox
-
--- it is read for the request's head, and by an upload
+-- it is read for the request's head alone
 abbrev pub LeavesClientIn : Phase → View → View → Type 0
 LeavesClientIn P.ReadRequest v w = GivesOn v w
-LeavesClientIn (P.Upload q) v w = UploadReads v w
 LeavesClientIn _ v w = LeavesClient v w
 
 -- what the step of a phase leaves as it is of both sides

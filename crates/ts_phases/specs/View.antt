@@ -6,6 +6,7 @@ use Rattle.ts_link.specs.Counts.{Rose}
 use Rattle.ts_link.specs.Link.{Look}
 use Rattle.ts_link.specs.declared.link.Link as link
 use Rattle.ts_upstream.specs.declared.upstream.Upstream as upstream
+use Rattle.ts_upstream.specs.declared.upstream.Uploaded.{Uploaded}
 use Rattle.ts_phases.specs.declared.parts.Peer.{Peer}
 use Rattle.ts_phases.specs.declared.parts.Sent.{Sent}
 use Rattle.ts_phases.specs.declared.parts.Core.{Core}
@@ -47,6 +48,9 @@ no_side = record {
     waits = 0;
     agains = Some 0;
     plan = None;
+    carried = [];
+    uploaded = true;
+    before = ([], []);
   };
   base = 0;
   inbox = [];
@@ -72,6 +76,20 @@ module _ {L : Type 0} where
   GoesIf goes (Some p) None = ⊥
   GoesIf goes (Some p) (Some q) = goes p.link q.link
 
+  -- whichever link it still was, it still is
+  abbrev pub StaysLink : (L → L → Type 0) → L → L → Type 0
+  StaysLink still old new = (l : L) → still l old → still l new
+
+  -- it is still this link, if there is one
+  abbrev pub StillIf : (L → L → Type 0) → Option L → Option (Peer L) → Type 0
+  StillIf still None None = ⊤
+  StillIf still None (Some p) = ⊥
+  StillIf still (Some l) None = ⊥
+  StillIf still (Some l) (Some p) = still l p.link
+
+  abbrev pub StaysLinkIf : (L → L → Type 0) → Option (Peer L) → Option (Peer L) → Type 0
+  StaysLinkIf still old new = (l : Option L) → StillIf still l old → StillIf still l new
+
   -- the origin's link refuses the upload of this list, if there is one
   abbrev pub refuses_if : (L → List ℕ → Type 0) → Option (Peer L) → List ℕ → Type 0
   refuses_if refuses None c = ⊥
@@ -81,6 +99,14 @@ module _ {L : Type 0} where
   abbrev pub upload_told : {C : Type 0} → (C → L → Option ℕ) → C → Option (Peer L) → Option ℕ
   upload_told left c None = Some 0
   upload_told left c (Some p) = left c p.link
+
+  -- one call of `upload` led from the first two links to the last two, if there is an origin
+  abbrev pub UploadIf : {C : Type 0} → (C → L → C → L → Uploaded → Type 0)
+      → C → Option (Peer L) → C → Option (Peer L) → Uploaded → Type 0
+  UploadIf once c None d None answer = ⊤
+  UploadIf once c None d (Some q) answer = ⊥
+  UploadIf once c (Some p) d None answer = ⊥
+  UploadIf once c (Some p) d (Some q) answer = once c p.link d q.link answer
 
   -- the links of the two sides belong together
   abbrev pub PairIf : {C : Type 0} → (C → L → Type 0) → C → Option (Peer L) → Type 0
@@ -107,3 +133,7 @@ module _ {C O : Type 0} where
   -- how much upload the two links have left
   abbrev pub upload_of : upstream.Ghosts O C → Core C O → Option ℕ
   upload_of pair t = upload_told pair.upload_left t.client.link t.origin
+
+  -- one call of `upload`, with this answer, led from the links of one to those of the other
+  abbrev pub IsOneUpload : upstream.Ghosts O C → Core C O → Core C O → Uploaded → Type 0
+  IsOneUpload pair t u = UploadIf pair.one_upload t.client.link t.origin u.client.link u.origin

@@ -1,5 +1,6 @@
 //! What of a transaction outlives a change of phase: its two sides, and what was queued for the client.
 
+use crate::received::Received;
 use std::alloc::Global;
 use std::sync::Arc;
 use ts_config::Setup;
@@ -15,7 +16,7 @@ pub struct Peer<L> {
     /// How many faults the link had met when the transaction was made.
     pub base: u64,
     /// What the link gave that was not used yet.
-    pub inbox: Waiting,
+    pub inbox: Received,
     /// What waits for the link.
     pub outbox: Waiting,
 }

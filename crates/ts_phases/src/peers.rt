@@ -2,13 +2,14 @@
 ghost use Rattle.std.specs.Prelude.{◌≡◌, ◌≤◌, ◌+◌, length, IfOk, OnOk, OnErr};
 ghost use Rattle.ts_upstream.specs.Uploads.{SameRefusal, UploadFalls, both};
 ghost use Rattle.ts_vconn.specs.declared.moves.TheConstants.{MOST_PULLED};
-ghost use Rattle.ts_phases.specs.View.{GoesIf, PairIf, refuses_if, side, side_if, is_dialed, upload_told};
+ghost use Rattle.ts_phases.specs.View.{GoesIf, PairIf, StaysLink, StaysLinkIf, UploadIf, refuses_if, side};
+ghost use Rattle.ts_phases.specs.View.{side_if, is_dialed, upload_told};
 ghost use Rattle.ts_phases.specs.Moving.{MovesBoth, QueuesOn, SideReads, SideWrites};
 
 use crate::parts::Peer;
 use ts_link::{Link, NoMemory};
 use ts_upstream::{Uploaded, Upstream};
-use ts_vconn::{Pulled, Pushed, pull_waiting, push_waiting};
+use ts_vconn::{Pulled, Pushed, push_waiting};
 
 impl<L: Link> Peer<L> {
     /// Gives back the memory of what was read and written, but of the bytes that wait. It takes no memory.
@@ -29,7 +30,7 @@ impl<L: Link> Peer<L> {
         ensures few { IfOk result (λ p. length self.new.inbox ≤ length self.old.inbox + most) }
         ensures err { OnErr result (self.new ≡ self.old) }
     {
-        pull_waiting(&mut self.link, &mut self.inbox, most)
+        self.inbox.pull(&mut self.link, most)
     }
 
     /// Makes one write of what waits for the link.
@@ -69,6 +70,8 @@ pub(crate) fn move_upload<C: Link, O: Upstream<C>>(
 ) -> Uploaded
     requires { PairIf O.paired client.old origin.old }
     ensures paired { PairIf O.paired client.new origin.new }
+    ensures still { StaysLink C.still client.old client.new × StaysLinkIf O.still origin.old origin.new }
+    ensures once { UploadIf O.one_upload client.old origin.old client.new origin.new result }
     ensures moved { MovesBoth C.tells O.tells (refuses_if O.refuses origin.old) result
         (C.look client.old) (C.look client.new) (side_if O.look origin.old) (side_if O.look origin.new) }
     ensures falls { UploadFalls result

@@ -1,13 +1,13 @@
 //! What a step calls on the sides of a transaction. Each call speaks of all of it, so that a step is one call
 //! and a choice by its answer.
 ghost use Rattle.std.specs.Prelude.{◌≡◌, IfOk, OnOk, OnErr};
-ghost use Rattle.ts_phases.specs.View.{IsPaired, refuses_if, upload_of, view_of};
+ghost use Rattle.ts_phases.specs.View.{IsOneUpload, IsPaired, refuses_if, upload_of, view_of};
 ghost use Rattle.ts_phases.specs.Moving.{cuts_of, SeeksRequest, SeeksResponse, LowersUpload, MovesUpload};
 ghost use Rattle.ts_phases.specs.Moving.{QueuesOwn, QueuesRequest, WritesClient, WritesOrigin};
 ghost use Rattle.ts_phases.specs.Holding.{StepKeeps};
 ghost use Rattle.ts_phases.specs.Lowering.{RaisesUpload};
 
-use crate::head_reader::{Found, seek_request, seek_response_if};
+use crate::head_reader::{Found, seek, seek_if};
 use crate::parts::{Core, Sent};
 use crate::peers::{give_back_origin, move_upload, push_origin, queue_if};
 use std::alloc::Global;
@@ -40,7 +40,7 @@ impl<C: Link, O: Upstream<C>> Core<C, O> {
         ensures rises { RaisesUpload O.Link O.Upstream.own self.old self.new }
         ensures keeps { StepKeeps C.Link O.Link O.Upstream.own self.old self.new }
     {
-        seek_request(self.alloc, &mut self.client)
+        seek(self.alloc, &mut self.client)
     }
 
     /// Takes the head of a response from the front of what the origin gave, or reads on.
@@ -50,7 +50,7 @@ impl<C: Link, O: Upstream<C>> Core<C, O> {
         ensures rises { RaisesUpload O.Link O.Upstream.own self.old self.new }
         ensures keeps { StepKeeps C.Link O.Link O.Upstream.own self.old self.new }
     {
-        seek_response_if(self.alloc, &mut self.origin)
+        seek_if(self.alloc, &mut self.origin)
     }
 
     /// Makes one write of what waits for the client.
@@ -76,6 +76,7 @@ impl<C: Link, O: Upstream<C>> Core<C, O> {
     /// Moves some of the upload that follows the request.
     pub(crate) fn upload(&mut self) -> Uploaded
         requires pair { IsPaired O.Upstream.own self.old }
+        ensures once { IsOneUpload O.Upstream.own self.old self.new result }
         ensures moves { MovesUpload C.tells O.tells (refuses_if O.refuses self.old.origin) result
             (view_of C.Link O.Link self.old) (view_of C.Link O.Link self.new) }
         ensures lowers { LowersUpload result (upload_of O.Upstream.own self.old)

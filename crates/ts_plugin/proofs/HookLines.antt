@@ -1,14 +1,14 @@
 -- The plugin that a table has at a place of a hook is that of the first line that is left there.
 use Rattle.std.proofs.Common.{◌≡◌, ◌∙◌, ◌+◌, ◌≤◌, ℕ, zero, suc, List, [], ◌∷◌, Some, None, ap, refl, sym}
 use Rattle.std.proofs.Common.{arith, Bool, true, false, cond, drop, slice_get, length, length-drop}
-use Rattle.std.proofs.Common.{append-nil}
 use Rattle.std.specs.Prelude.{map}
 use Rattle.std.specs.List.{filter}
 use Rattle.ts_config.specs.declared.fields.PluginLine.{PluginLine}
 use Rattle.ts_hooks.specs.declared.hook.Hook.{Hook}
 use Rattle.ts_hooks.specs.Hooks.{is_same, plugins_at, hook_list}
 use Rattle.ts_plugin.specs.Replies.{hook_of}
-use Rattle.ts_plugin.specs.Lines.{hooks_from, table_of, lines_at, lines_left, IsNext}
+use Rattle.ts_plugin.specs.Lines.{AreOrdered, table_of, lines_at, lines_left, IsNext}
+use Rattle.ts_plugin.proofs.InOrder.{all_groups, hooks_from}
 
 -- the groups of the plugins at a hook, where the first line's plugin has this group
 abbrev groups_at : Hook → ℕ → List PluginLine → List ℕ
@@ -120,18 +120,13 @@ none hook first (l ∷ lines) place is =
     (ap (λ groups. slice_get groups place) (sym (groups_more hook first l lines (is_same (hook_of l) hook)))
     ∙ is)
 
--- no plugin is asked by one transaction alone
-all_groups : (hook : Hook) (first : ℕ) (lines : List PluginLine)
-    → hook_list (table_of first lines) hook ≡ groups_at hook first lines
-all_groups hook first lines = append-nil (groups_at hook first lines)
-
 -- The plugin that the table has at a place is asked next there.
-pub left_first : (hook : Hook) (first : ℕ) (lines : List PluginLine) (place group : ℕ)
+pub left_first : (hook : Hook) (first : ℕ) (lines : List PluginLine) (place group : ℕ) → AreOrdered lines
     → slice_get (hook_list (table_of first lines) hook) place ≡ Some group
     → IsNext hook first lines place group
-left_first hook first lines place group is =
+left_first hook first lines place group ordered is =
     let at = found hook first lines place group
-    (ap (λ groups. slice_get groups place) (sym (all_groups hook first lines)) ∙ is) in
+    (ap (λ groups. slice_get groups place) (sym (all_groups hook first lines ordered)) ∙ is) in
     record {
       listed = is;
       number = at.number;
@@ -143,11 +138,11 @@ left_first hook first lines place group is =
     }
 
 -- Where the table has none at a place, nothing is left there.
-pub left_none : (hook : Hook) (first : ℕ) (lines : List PluginLine) (place : ℕ)
+pub left_none : (hook : Hook) (first : ℕ) (lines : List PluginLine) (place : ℕ) → AreOrdered lines
     → slice_get (hook_list (table_of first lines) hook) place ≡ None → lines_left hook place lines ≡ []
-left_none hook first lines place is =
+left_none hook first lines place ordered is =
     none hook first lines place
-    (ap (λ groups. slice_get groups place) (sym (all_groups hook first lines)) ∙ is)
+    (ap (λ groups. slice_get groups place) (sym (all_groups hook first lines ordered)) ∙ is)
 
 -- the place of a plugin that is asked is one of the hook's
 pub next_within : (hook : Hook) (first : ℕ) (lines : List PluginLine) (place group : ℕ)

@@ -5,7 +5,7 @@ use Rattle.ts_wire.specs.declared.fields.Field.{Field}
 use Rattle.ts_config.specs.declared.fields.Side.{Side}
 use Rattle.ts_config.specs.declared.fields.Side.TheVariants as S
 use Rattle.ts_config.specs.declared.fields.PluginLine.{PluginLine}
-use Rattle.ts_config.specs.declared.fields.PluginLine.TheVariants.{Deny, Header}
+use Rattle.ts_config.specs.declared.fields.PluginLine.TheVariants.{Deny, Header, SessionHeader}
 use Rattle.ts_hooks.specs.declared.hook.Hook.TheVariants as h
 use Rattle.ts_hooks.specs.declared.hook.HookAnswer.TheVariants.{Continue, Error}
 use Rattle.ts_block.specs.Rules.{is_denied, is_site, denies, ruled, after_line, apply_rule}
@@ -24,6 +24,7 @@ pub answer_denies : (line : PluginLine) (host : List ℕ) (fields : List Field)
     → is_error (answer_of line (question_at h.OsDns host fields)) ≡ denies host line
 answer_denies (Deny sites) host fields = error_if (is_site host sites)
 answer_denies (Header side rule) host fields = refl
+answer_denies (SessionHeader side rule) host fields = refl
 
 -- At the hook of a side the fields of the reply are those after the line.
 pub fields_after : (side : Side) (line : PluginLine) (host : List ℕ) (fields : List Field)
@@ -31,9 +32,13 @@ pub fields_after : (side : Side) (line : PluginLine) (host : List ℕ) (fields :
 fields_after S.Request (Deny sites) host fields = refl
 fields_after S.Request (Header S.Request rule) host fields = refl
 fields_after S.Request (Header S.Response rule) host fields = refl
+fields_after S.Request (SessionHeader S.Request rule) host fields = refl
+fields_after S.Request (SessionHeader S.Response rule) host fields = refl
 fields_after S.Response (Deny sites) host fields = refl
 fields_after S.Response (Header S.Request rule) host fields = refl
 fields_after S.Response (Header S.Response rule) host fields = refl
+fields_after S.Response (SessionHeader S.Request rule) host fields = refl
+fields_after S.Response (SessionHeader S.Response rule) host fields = refl
 
 -- a line of another hook denies no host
 pub denied_at : (lines : List PluginLine) (host : List ℕ)
@@ -41,7 +46,9 @@ pub denied_at : (lines : List PluginLine) (host : List ℕ)
 denied_at [] host = refl
 denied_at (Deny sites ∷ lines) host = ap (λ b. is_site host sites || b) (denied_at lines host)
 denied_at (Header S.Request rule ∷ lines) host = denied_at lines host
+denied_at (SessionHeader S.Request rule ∷ lines) host = denied_at lines host
 denied_at (Header S.Response rule ∷ lines) host = denied_at lines host
+denied_at (SessionHeader S.Response rule ∷ lines) host = denied_at lines host
 
 -- a line of another hook leaves the fields of a side as they are
 pub ruled_at : (side : Side) (lines : List PluginLine) (fields : List Field)
@@ -50,10 +57,16 @@ ruled_at S.Request [] fields = refl
 ruled_at S.Request (Deny sites ∷ lines) fields = ruled_at S.Request lines fields
 ruled_at S.Request (Header S.Request rule ∷ lines) fields = ruled_at S.Request lines (apply_rule rule fields)
 ruled_at S.Request (Header S.Response rule ∷ lines) fields = ruled_at S.Request lines fields
+ruled_at S.Request (SessionHeader S.Request rule ∷ lines) fields =
+    ruled_at S.Request lines (apply_rule rule fields)
+ruled_at S.Request (SessionHeader S.Response rule ∷ lines) fields = ruled_at S.Request lines fields
 ruled_at S.Response [] fields = refl
 ruled_at S.Response (Deny sites ∷ lines) fields = ruled_at S.Response lines fields
 ruled_at S.Response (Header S.Request rule ∷ lines) fields = ruled_at S.Response lines fields
 ruled_at S.Response (Header S.Response rule ∷ lines) fields =
+    ruled_at S.Response lines (apply_rule rule fields)
+ruled_at S.Response (SessionHeader S.Request rule ∷ lines) fields = ruled_at S.Response lines fields
+ruled_at S.Response (SessionHeader S.Response rule ∷ lines) fields =
     ruled_at S.Response lines (apply_rule rule fields)
 
 -- some plugin of some lines refuses where some of the lines denies
@@ -129,8 +142,10 @@ pub goes_on : (side : Side) (line : PluginLine) (host : List ℕ) (fields : List
     → answer_of line (question_at (hook_of_side side) host fields) ≡ Continue
 goes_on S.Request (Deny sites) host fields = refl
 goes_on S.Request (Header ruled rule) host fields = refl
+goes_on S.Request (SessionHeader ruled rule) host fields = refl
 goes_on S.Response (Deny sites) host fields = refl
 goes_on S.Response (Header ruled rule) host fields = refl
+goes_on S.Response (SessionHeader ruled rule) host fields = refl
 
 pub refuses_denied : RefusesDenied
 refuses_denied lines host fields = refuses (lines_at h.OsDns lines) host fields ∙ denied_at lines host

@@ -49,5 +49,9 @@ pub fn copy_line(alloc: Global, line: &PluginLine) -> Result<PluginLine, NoMemor
             side: *side,
             rule: copy_rule(rule)?,
         }),
+        PluginLine::SessionHeader { side, rule } => Ok(PluginLine::SessionHeader {
+            side: *side,
+            rule: copy_rule(rule)?,
+        }),
     }
 }

@@ -1,6 +1,7 @@
 //! The hook at which the plugin of a line stands, and the table of the plugins of some lines.
 
 ghost use Rattle.std.specs.Prelude.{◌≡◌, ◌+◌, ◌≤◌, length, IfOk};
+ghost use Rattle.ts_config.specs.Setup.{is_session};
 ghost use Rattle.ts_plugin.specs.Replies.{hook_of_side, hook_of};
 ghost use Rattle.ts_plugin.specs.Lines.{table_of};
 
@@ -26,11 +27,22 @@ pub fn hook_of(line: &PluginLine) -> Hook
     match line {
         PluginLine::Deny { .. } => Hook::OsDns,
         PluginLine::Header { side, .. } => hook_of_side(*side),
+        PluginLine::SessionHeader { side, .. } => hook_of_side(*side),
+    }
+}
+
+// Whether the plugin of a line is a session's.
+fn is_session(line: &PluginLine) -> bool
+    ensures { result ≡ is_session line.now }
+{
+    match line {
+        PluginLine::SessionHeader { .. } => true,
+        PluginLine::Deny { .. } | PluginLine::Header { .. } => false,
     }
 }
 
 /// The table of the plugins that each transaction asks at its hooks: the plugin of each line at its hook, by
-/// the number of its group. The first line's plugin has the group `first`, and each line's the next.
+/// the number of its group. That of a session's line is the session's. The first line's plugin has the group `first`, and each line's the next.
 pub fn table_of(alloc: Global, lines: &[PluginLine], first: u32) -> Result<HookTable, NoMemory>
     requires { first + length lines.now ≤ u32.MAX }
     ensures { IfOk result (λ table. table ≡ table_of first lines.now) }
@@ -38,7 +50,11 @@ pub fn table_of(alloc: Global, lines: &[PluginLine], first: u32) -> Result<HookT
     let mut table = HookTable::new(alloc)?;
     let mut group = first;
     for line in lines {
-        table.add_global(hook_of(line), group)?;
+        if is_session(line) {
+            table.add_session(hook_of(line), group)?;
+        } else {
+            table.add_global(hook_of(line), group)?;
+        }
         group += 1;
     }
     Ok(table)

@@ -71,5 +71,6 @@ pub fn reply_of(alloc: Global, line: &PluginLine, question: HookQuestion) -> Hoo
     match line {
         PluginLine::Deny { sites } => deny(sites, question),
         PluginLine::Header { side, rule } => change(alloc, *side, rule, question),
+        PluginLine::SessionHeader { side, rule } => change(alloc, *side, rule, question),
     }
 }

@@ -3,8 +3,8 @@ use Rattle.std.proofs.Common.{ℕ}
 use Rattle.ts_group.specs.declared.either.Either.{Either}
 use Rattle.ts_group.specs.declared.either.Either.TheVariants.{One, Other}
 use Rattle.ts_group.specs.Either.{EitherAnswers, EitherRight}
-use Rattle.ts_group_tests.specs.declared.peer.Peer.{Peer}
-use Rattle.ts_group_tests.specs.Peers.{PeerAnswers, PeerRight}
+use Rattle.ts_toys.specs.declared.peer.Peer.{Peer}
+use Rattle.ts_toys.specs.Peers.{PeerAnswers, PeerRight}
 
 pub fair : (asked asker : Either Peer Peer) (group question reply : ℕ)
     → EitherAnswers PeerAnswers PeerAnswers asked question reply

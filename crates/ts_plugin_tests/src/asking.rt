@@ -35,8 +35,8 @@ pub fn deny_line(alloc: Global, sites: &[&[u8]]) -> Result<PluginLine, NoMemory>
     })
 }
 
-/// A line `header.so`.
-pub fn header_line(alloc: Global, written: Written) -> Result<PluginLine, Fail> {
+// The side and the rule of a line as it is written.
+fn rule_of(alloc: Global, written: Written) -> Result<(Side, Rule), Fail> {
     let (side, word, name, value) = written;
     let name = HeaderName::from_bytes(alloc, name)?;
     let value = HeaderValue::from_bytes(alloc, value)?;
@@ -45,7 +45,19 @@ pub fn header_line(alloc: Global, written: Written) -> Result<PluginLine, Fail> 
         Word::Add => Rule::Add { name, value },
         Word::Remove => Rule::Remove { name },
     };
+    Ok((side, rule))
+}
+
+/// A line `header.so`.
+pub fn header_line(alloc: Global, written: Written) -> Result<PluginLine, Fail> {
+    let (side, rule) = rule_of(alloc, written)?;
     Ok(PluginLine::Header { side, rule })
+}
+
+/// A line `session.so`.
+pub fn session_line(alloc: Global, written: Written) -> Result<PluginLine, Fail> {
+    let (side, rule) = rule_of(alloc, written)?;
+    Ok(PluginLine::SessionHeader { side, rule })
 }
 
 /// A question at a hook, for the host of a request as it was written, with no fields.

@@ -8,11 +8,11 @@ ghost use Rattle.ts_journal.specs.State.{State};
 use std::alloc::Global;
 use std::test::Fail;
 use ts_group::{Either, Group, Handling, ONLY_SEAT, World};
-use ts_group_tests::burst::{Burst, CALLS};
-use ts_group_tests::drive::{Driven, ask_for, drive};
-use ts_group_tests::peer::{ASKED, Peer};
-use ts_group_tests::steps::{Countdown, Stepper};
 use ts_link::NoMemory;
+use ts_toys::burst::{Burst, CALLS};
+use ts_toys::drive::{Driven, ask_for, drive};
+use ts_toys::peer::{ASKED, Peer};
+use ts_toys::steps::{Countdown, Stepper};
 
 // A group of a world that was started in its first turn, which is still held.
 fn begin<W: World + Drop>(alloc: Global, world: W) -> Result<Group<W>, NoMemory>

@@ -2,7 +2,8 @@
 //! their lines.
 
 use crate::asking::{
-    MOST_LINES, Word, Written, ask_in_turn, deny_line, header_line, question_about, text_of,
+    MOST_LINES, Word, Written, ask_in_turn, deny_line, header_line, question_about, session_line,
+    text_of,
 };
 use std::alloc::Global;
 use std::test::Fail;
@@ -118,6 +119,31 @@ fn rules_are_applied_in_the_order_of_their_lines(rt: HostRuntime) -> Result<(), 
         let response = text_at(rt.alloc(), row, Hook::SendResponseHdr)?;
         assert_eq!(rt; response.bytes(), row.response, "response of row {place}");
     }
+    Ok(())
+}
+
+// A rule of a session is applied behind one of all transactions, though its line stands before the other.
+#[test]
+fn rules_of_all_transactions_come_before_those_of_a_session(rt: HostRuntime) -> Result<(), Fail> {
+    let session = (
+        Side::Response,
+        Word::Add,
+        b"x-a".as_slice(),
+        b"2".as_slice(),
+    );
+    let header = (
+        Side::Response,
+        Word::Add,
+        b"x-a".as_slice(),
+        b"1".as_slice(),
+    );
+    let mut lines = Vec::new(rt.alloc());
+    lines.push(session_line(rt.alloc(), session)?)?;
+    lines.push(header_line(rt.alloc(), header)?)?;
+    let question = question_about(rt.alloc(), Hook::SendResponseHdr, &[])?;
+    let fields = ask_in_turn(rt.alloc(), lines.as_slice(), question)?;
+    let text = text_of(rt.alloc(), &fields)?;
+    assert_eq!(rt; text.bytes(), b"x-a: 1\nx-a: 2\n".as_slice());
     Ok(())
 }
 

@@ -3,11 +3,11 @@ use Rattle.std.specs.Prelude.{◌≢◌, ⊤, nat_le, length}
 use Rattle.std.proofs.Common.{◌≡◌, ◌⊎◌, ℕ, Bool, true, false, List, [], ◌∷◌, Option, Some, None, inl, inr}
 use Rattle.std.proofs.Common.{ap, refl, subst, sym, arith, if◌then◌else◌}
 use Rattle.std.proofs.lemmas.List.{append-nil}
-use Rattle.ts_config.specs.Setup.{ConfigLines}
+use Rattle.ts_config.specs.Setup.{ConfigLines, file_at, with_file}
 use Rattle.ts_config.specs.Value.{Reading, Good, Bad, config_of}
 use Rattle.ts_config.specs.declared.setup.ConfigKind.{ConfigKind}
-use Rattle.ts_config.specs.declared.setup.TransformLine.{TransformLine}
-use Rattle.ts_config.specs.declared.setup.TransformLine.TheVariants as t
+use Rattle.ts_config.specs.declared.setup.ConfigKind.TheVariants as k
+use Rattle.ts_config.specs.declared.setup.FilePlace.{FilePlace}
 use Rattle.ts_journal.specs.Log.{Log}
 use Rattle.ts_link.specs.Counts.{Counted}
 use Rattle.ts_link.specs.Seen.{ShelfSeen, SinkSeen}
@@ -19,9 +19,10 @@ use Rattle.ts_proxy.specs.Answers.{TookAt, TookText, file_name, is_long, is_unre
 use Rattle.ts_proxy.specs.Ends.{EndsAt, HasCause, IsQuiet, IsStatus, IsStatusOf, RoseAt, Takes, TakesAt, bad_line}
 use Rattle.ts_proxy.specs.Ends.{cannot_read, cannot_write, done, network, out_of_memory, status_of, too_long}
 use Rattle.ts_proxy.specs.Ends.{usage}
-use Rattle.ts_proxy.specs.Outcome.{Outcome, Usage, BadLine, Missing, Long, Text, Report, Summary, Serving, filled}
-use Rattle.ts_proxy.specs.Outcome.{line_filled, lines_filled, most_append, most_config, most_input, opened}
-use Rattle.ts_proxy.specs.Outcome.{outcome_of, performed, set_up, understood, with_transforms, worked}
+use Rattle.ts_proxy.specs.Outcome.{Outcome, Usage, BadLine, Missing, Long, Text, Report, Summary, Serving, acted}
+use Rattle.ts_proxy.specs.Outcome.{lines_filled, most_append, most_config, most_input, opened}
+use Rattle.ts_proxy.specs.Outcome.{outcome_of, performed, named_filled, set_up, understood, worked}
+use Rattle.ts_proxy.specs.Idle.{first_idle}
 use Rattle.ts_proxy.specs.Performed.{IsPerformed, NamesFiles}
 use Rattle.ts_proxy.specs.Took.{TookNothing, TookSome, TookWhole}
 use Rattle.ts_proxy.specs.Words.{Command, Transform, Replay, Task, Over, Make, Serve, config_in, input_in}
@@ -44,40 +45,37 @@ module _ (Is : Outcome → Type 0) (missing : (name : List ℕ) → Is (Missing 
   opened-of (Some bytes) most name next h =
       if-of (nat_le (length bytes) most) (next bytes) (Long name) (h bytes) (long name)
 
-  line-of : (files : List ℕ → Option (List ℕ)) (l : TransformLine) (next : TransformLine → Outcome)
-      → ((x : TransformLine) → Is (next x)) → Is (line_filled files l next)
-  line-of files (t.Append name text) next h =
-      opened-of (files name) most_append name (λ bytes. next (t.Append name bytes))
-      (λ bytes. h (t.Append name bytes))
-  line-of files t.Null next h = h t.Null
-  line-of files t.Bnull next h = h t.Bnull
-  line-of files (t.Prepend text) next h = h (t.Prepend text)
-  line-of files (t.Map from to) next h = h (t.Map from to)
-  line-of files (t.Drop byte) next h = h (t.Drop byte)
-  line-of files (t.Delay ms) next h = h (t.Delay ms)
-  line-of files (t.Limit most) next h = h (t.Limit most)
+  named-of : (files : List ℕ → Option (List ℕ)) (o : Option (List ℕ)) (p : FilePlace) (ls : ConfigLines)
+      (next : ConfigLines → Outcome) → ((xs : ConfigLines) → Is (next xs)) → Is (named_filled files o p ls next)
+  named-of files None p ls next h = h ls
+  named-of files (Some name) p ls next h =
+      opened-of (files name) most_append name (λ text. next (with_file p text ls))
+      (λ text. h (with_file p text ls))
 
-  filled-of : (files : List ℕ → Option (List ℕ)) (ls : List TransformLine)
-      (next : List TransformLine → Outcome)
-      → ((xs : List TransformLine) → Is (next xs)) → Is (filled files ls next)
-  filled-of files [] next h = h []
-  filled-of files (l ∷ ls) next h =
-      line-of files l (λ first. filled files ls (λ rest. next (first ∷ rest)))
-      (λ first. filled-of files ls (λ rest. next (first ∷ rest)) (λ rest. h (first ∷ rest)))
+  filled-of : (files : List ℕ → Option (List ℕ)) (ps : List FilePlace) (ls : ConfigLines)
+      (next : ConfigLines → Outcome) → ((xs : ConfigLines) → Is (next xs)) → Is (lines_filled files ps ls next)
+  filled-of files [] ls next h = h ls
+  filled-of files (p ∷ ps) ls next h =
+      named-of files (file_at ls p) p ls (λ filled. lines_filled files ps filled next)
+      (λ filled. filled-of files ps filled next h)
 
-  understood-of : (files : List ℕ → Option (List ℕ)) (r : Reading) (next : ConfigLines → Outcome)
-      → ((xs : ConfigLines) → Is (next xs)) → Is (understood r (λ ls. lines_filled files ls next))
-  understood-of files (Good lines) next h =
-      filled-of files lines.transforms (λ ts. next (with_transforms ts lines))
-      (λ ts. h (with_transforms ts lines))
-  understood-of files (Bad n k) next h = bad n k
+  acted-of : (o : Option ℕ) (x : Outcome) → Is x → Is (acted o x)
+  acted-of None x h = h
+  acted-of (Some n) x h = bad n k.Arguments
+
+  understood-of : (files : List ℕ → Option (List ℕ)) (r : Reading) (idle : Option ℕ)
+      (next : ConfigLines → Outcome) → ((xs : ConfigLines) → Is (next xs))
+      → Is (understood r (λ ls ps. acted idle (lines_filled files ps ls next)))
+  understood-of files (Good lines places) idle next h =
+      acted-of idle (lines_filled files places lines next) (filled-of files places lines next h)
+  understood-of files (Bad n kind) idle next h = bad n kind
 
   set-up-of : (files : List ℕ → Option (List ℕ)) (config : List ℕ) (next : ConfigLines → Outcome)
       → ((xs : ConfigLines) → Is (next xs)) → Is (set_up files config next)
   set-up-of files config next h =
-      opened-of (files config) most_config config
-      (λ bytes. understood (config_of bytes) (λ ls. lines_filled files ls next))
-      (λ bytes. understood-of files (config_of bytes) next h)
+      opened-of (files config) most_config config (λ bytes. understood (config_of bytes)
+      (λ ls ps. acted (first_idle bytes) (lines_filled files ps ls next)))
+      (λ bytes. understood-of files (config_of bytes) (first_idle bytes) next h)
 
   performed-by : (command : Command) → ((lines : ConfigLines) (bytes : List ℕ)
       → Is (worked command lines bytes))

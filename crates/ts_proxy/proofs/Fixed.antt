@@ -40,9 +40,9 @@ means line ascii bytes =
 -- a line that means this one, and the lines behind it
 line_then : (line : List ℕ) (lines : List (List ℕ)) (n : ℕ) (so_far : ConfigLines)
     (m : Result LineMeaning ConfigKind) → meaning_of line ≡ m
-    → read_lines (line ∷ lines) n so_far ≡ next_lines m (n + 1) so_far (read_lines lines (n + 1))
+    → read_lines (line ∷ lines) n so_far [] ≡ next_lines m (n + 1) so_far [] (read_lines lines (n + 1))
 line_then line lines n so_far m is =
-    ap (λ x. next_lines x (n + 1) so_far (read_lines lines (n + 1))) is
+    ap (λ x. next_lines x (n + 1) so_far [] (read_lines lines (n + 1))) is
 
 -- ---- the lines
 
@@ -74,7 +74,7 @@ from_drop = codes "drop.so q" ∷ from_bnull
 abbrev from_map : List (List ℕ)
 from_map = codes "map.so a A" ∷ from_drop
 
-pub fixed_reading : config_of fixed_config ≡ Good fixed_lines
+pub fixed_reading : config_of fixed_config ≡ Good fixed_lines []
 fixed_reading =
     line_then (codes "null_transform.so") from_map 0 (transforms_alone []) (Ok (Transform t.Null)) null_line
     ∙ line_then (codes "map.so a A") from_drop 1 (transforms_alone (t.Null ∷ []))

@@ -1,6 +1,7 @@
+pub mod ActingLines
 pub mod Composing
 pub mod Ending
-pub mod Filling
+pub mod FilledLines
 pub mod Fixed
 pub mod Fronts
 pub mod Numbers

@@ -470,6 +470,13 @@ of_driver a b base none state ends =
             (lawful_back new on.folded b.entries (subst (IsLawful new) on.entries on.lawful));
         state = on.state ∙ ap (replay new) on.entries ∙ replay-append new on.folded b.entries
             ∙ ap (λ s. replay s b.entries) (sym on.base_state);
+        lived_base = subst (λ m. HasLived m b.base.state) (sym on.made) (record {
+          beginning = new;
+          is_beginning = inr (own_key, refl);
+          life = on.folded;
+          lawful = lawful_front new on.folded b.entries (subst (IsLawful new) on.entries on.lawful);
+          state = on.base_state;
+        });
         lived = subst (λ m. HasLived m b.state) (sym on.made) (record {
           beginning = new;
           is_beginning = inr (own_key, refl);

@@ -8,10 +8,10 @@ use Rattle.ts_journal.specs.Log.{Log}
 use Rattle.ts_link.specs.Counts.{Rose, greatest}
 use Rattle.ts_link.specs.Seen.{ShelfSeen, SinkSeen}
 use Rattle.ts_link.specs.declared.link.Link as link
-use Rattle.ts_serve.specs.Books.{had_number, lacked_origin}
+use Rattle.ts_serve.specs.Balance.{had_number, lacked_origin}
 use Rattle.ts_serve.specs.Served.{AreRetired}
-use Rattle.ts_serve.specs.Transactions.{IsTxnDone}
-use Rattle.ts_serve.specs.declared.door.TheConstants.{PLACES}
+use Rattle.ts_serve.specs.Exchanges.{IsTxnDone}
+use Rattle.ts_serve.specs.declared.acceptor.TheConstants.{PLACES}
 use Rattle.ts_stock.specs.StockTransform.{stock_transform}
 use Rattle.ts_txn.specs.Net.{IsFreshNet, NetSeen}
 use Rattle.ts_txn.specs.declared.retired.Retired.{Retired}

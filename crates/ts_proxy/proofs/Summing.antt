@@ -2,8 +2,9 @@
 use Rattle.std.proofs.Common.{◌≡◌, ℕ, ◌+◌, ◌≤◌, List, [], ◌∷◌, ◌++◌, length, drop, refl, sym, ap, ◌∙◌, arith}
 use Rattle.std.proofs.Common.{length-append}
 use Rattle.std.proofs.Math.ListN.{drop_of_length-le}
-use Rattle.ts_proxy.specs.Summary.{bodies, sum_of, sum_with, summary_of, whole_count, whole_once}
+use Rattle.ts_proxy.specs.Summary.{bodies, summary_of, whole_count, whole_once}
 use Rattle.ts_proxy.specs.declared.summary.Summary.{Summary}
+use Rattle.ts_record.specs.Sum.{sum_of, sum_with}
 use Rattle.ts_record.specs.declared.report.ReportBlock.{ReportBlock}
 
 -- the sum with bytes and others behind them

@@ -1,5 +1,5 @@
 -- When each answer of a command comes, and what it leaves.
-use Rattle.std.specs.Prelude.{◌≡◌, ℕ, ◌≤◌, ◌++◌, List, [], ◌∷◌, length, ⊤, Option, IsSomeAnd, Result, Ok, Err}
+use Rattle.std.specs.Prelude.{◌≡◌, ℕ, ◌≤◌, ◌++◌, List, [], ◌∷◌, length, ⊤, Option, Some, None, IsSomeAnd, Result, Ok, Err}
 use Rattle.std.specs.Prelude.{Bool, true, false}
 use Rattle.ts_link.specs.Counts.{Counted, Rose}
 use Rattle.ts_link.specs.Seen.{ShelfSeen, SinkSeen}
@@ -10,12 +10,13 @@ use Rattle.ts_proxy.specs.declared.answer.Answer.{Answer}
 use Rattle.ts_proxy.specs.declared.answer.Answer.TheVariants as a
 use Rattle.ts_proxy.specs.declared.answer.NamedFile.{NamedFile}
 use Rattle.ts_proxy.specs.declared.answer.NamedFile.TheVariants as file
-use Rattle.ts_config.specs.declared.setup.TransformLine.{TransformLine}
-use Rattle.ts_config.specs.declared.setup.TransformLine.TheVariants as t
-use Rattle.ts_config.specs.Setup.{ConfigLines}
+use Rattle.ts_config.specs.declared.setup.FilePlace.{FilePlace}
+use Rattle.ts_config.specs.Setup.{ConfigLines, HasSameFiles, file_at, lines_of, untexted_lines}
+use Rattle.ts_config.specs.declared.setup.Setup.{Setup}
 use Rattle.ts_config.specs.Value.{Good, config_of}
 use Rattle.ts_proxy.specs.Outcome.{Outcome, Usage, BadLine, Long, Text, Report, Summary, Serving}
-use Rattle.ts_proxy.specs.Outcome.{most_config, filled, set_up}
+use Rattle.ts_proxy.specs.Idle.{first_idle}
+use Rattle.ts_proxy.specs.Outcome.{lines_filled, most_config, set_up}
 use Rattle.ts_proxy.specs.Summary.{IsSummaryOf}
 use Rattle.ts_proxy.specs.Took.{TookNothing, TookSome, TookWhole}
 use Rattle.ts_record.specs.Offsets.{IsRefusedAt}
@@ -77,27 +78,41 @@ abbrev pub Leads : {X : Type 0} → List ℕ → List ℕ → Result X Answer �
 Leads config input (Ok x) o next = o ≡ next x
 Leads config input (Err answer) o next = ComesAt config input answer o
 
--- the file of an append line
-abbrev pub IsNamedBy : TransformLine → NamedFile → Type 0
-IsNamedBy line (file.Appended name) = (text : List ℕ) × (line ≡ t.Append name text)
-IsNamedBy line _ = ⊥
+-- the lines of a setup are the same but for the texts of their files
+pub record KeepsLines (old new : Setup) : Type 0 where
+  pub lines : untexted_lines (lines_of new) ≡ untexted_lines (lines_of old)
+  pub names : HasSameFiles (lines_of old) (lines_of new)
+  pub places : new.files ≡ old.files
 
--- the work on these lines comes to a file: a line names it, and the files of all lines before that one are
--- there within their limit
-pub record ReachesFile (files : List ℕ → Option (List ℕ)) (lines : List TransformLine) (f : NamedFile)
-    : Type 0 where
-  pub before : List TransformLine
-  pub line : TransformLine
-  pub after : List TransformLine
-  pub stands : lines ≡ before ++ line ∷ after
-  pub names : IsNamedBy line f
-  pub read : HasOutput (filled files before (λ ls. Text []))
+-- the file of the line at a place
+abbrev pub IsNamedAt : ConfigLines → FilePlace → NamedFile → Type 0
+IsNamedAt lines place (file.Appended name) = file_at lines place ≡ Some name
+IsNamedAt lines place _ = ⊥
 
--- the configuration is there within its limit and has no faulty line, and the work on its lines comes to a
--- file
+-- the work on the lines at these places comes to a file: that of one of them, and the files of all before it
+-- are there within their limit
+pub record ReachesFile (files : List ℕ → Option (List ℕ)) (places : List FilePlace) (lines : ConfigLines)
+    (f : NamedFile) : Type 0 where
+  pub before : List FilePlace
+  pub place : FilePlace
+  pub after : List FilePlace
+  pub stands : places ≡ before ++ place ∷ after
+  pub names : IsNamedAt lines place f
+  pub read : HasOutput (lines_filled files before lines (λ ls. Text []))
+
+-- these are lines in the grammar, with the places of their files, some part of the program acts on each, and
+-- the work on them comes to a file
+pub record ReachesIn (files : List ℕ → Option (List ℕ)) (bytes : List ℕ) (f : NamedFile) : Type 0 where
+  pub lines : ConfigLines
+  pub places : List FilePlace
+  pub reading : config_of bytes ≡ Good lines places
+  pub acted : first_idle bytes ≡ None
+  pub reaches : ReachesFile files places lines f
+
+-- the configuration is there within its limit, and the work on its lines comes to a file
 abbrev pub IsReadFor : (List ℕ → Option (List ℕ)) → List ℕ → NamedFile → Type 0
-IsReadFor files config f = IsSomeAnd (files config) (λ bytes. (length bytes ≤ most_config)
-    × (lines : ConfigLines) × (config_of bytes ≡ Good lines) × ReachesFile files lines.transforms f)
+IsReadFor files config f =
+    IsSomeAnd (files config) (λ bytes. (length bytes ≤ most_config) × ReachesIn files bytes f)
 
 -- the file whose read failed is one that the work comes to: the configuration; a file that one of its lines
 -- names; and the input, once all the others were read

@@ -2,12 +2,13 @@
 -- in the order of the work, or the text that is written.
 use Rattle.std.specs.Prelude.{ℕ, nat_le, List, [], ◌∷◌, length, Option, Some, None, if◌then◌else◌}
 use Rattle.ts_link.specs.Seen.{ShelfSeen}
-use Rattle.ts_config.specs.declared.setup.TransformLine.{TransformLine}
-use Rattle.ts_config.specs.declared.setup.TransformLine.TheVariants as t
+use Rattle.ts_config.specs.declared.setup.FilePlace.{FilePlace}
 use Rattle.ts_config.specs.declared.setup.ConfigKind.{ConfigKind}
-use Rattle.ts_config.specs.Setup.{ConfigLines}
+use Rattle.ts_config.specs.declared.setup.ConfigKind.TheVariants as k
+use Rattle.ts_config.specs.Setup.{ConfigLines, file_at, with_file}
 use Rattle.ts_config.specs.Value.{Reading, Good, Bad, config_of}
 use Rattle.ts_config.specs.Bodies.{compose_lines}
+use Rattle.ts_proxy.specs.Idle.{first_idle}
 use Rattle.ts_proxy.specs.Words.{Command, Transform, Replay, Task, Over, Make, Serve}
 use Rattle.ts_proxy.specs.declared.command.GenerateTask.{GenerateTask}
 
@@ -15,7 +16,7 @@ use Rattle.ts_proxy.specs.declared.command.GenerateTask.{GenerateTask}
 abbrev pub most_config : ℕ
 most_config = 1048576
 
--- the most bytes of the file of an append line, 16 KiB
+-- the most bytes of the file of a line, 16 KiB
 abbrev pub most_append : ℕ
 most_append = 16384
 
@@ -42,35 +43,41 @@ abbrev pub opened : Option (List ℕ) → ℕ → List ℕ → (List ℕ → Out
 opened None most name next = Missing name
 opened (Some bytes) most name next = if nat_le (length bytes) most then next bytes else Long name
 
--- goes on with the lines of a configuration, if all are in the grammar
-abbrev pub understood : Reading → (ConfigLines → Outcome) → Outcome
-understood (Good lines) next = next lines
-understood (Bad n k) next = BadLine n k
+-- goes on with the lines of a configuration and the places of those with a file, if all are in the grammar
+abbrev pub understood : Reading → (ConfigLines → List FilePlace → Outcome) → Outcome
+understood (Good lines places) next = next lines places
+understood (Bad n kind) next = BadLine n kind
 
--- goes on with a line, which if it is an append has the text of its file
-abbrev pub line_filled : (List ℕ → Option (List ℕ)) → TransformLine → (TransformLine → Outcome) → Outcome
-line_filled files (t.Append name text) next =
-    opened (files name) most_append name (λ bytes. next (t.Append name bytes))
-line_filled files line next = next line
+-- goes on where some part of the program acts on each line; the first on which none does is named
+abbrev pub acted : Option ℕ → Outcome → Outcome
+acted None next = next
+acted (Some n) next = BadLine n k.Arguments
 
--- goes on with transform lines in their order, each append with the text of its file
-abbrev pub filled : (List ℕ → Option (List ℕ)) → List TransformLine → (List TransformLine → Outcome) → Outcome
-filled files [] next = next []
-filled files (l ∷ ls) next = line_filled files l (λ first. filled files ls (λ rest. next (first ∷ rest)))
+-- goes on with the lines, of which the one at this place has the text of the file of this name
+abbrev pub named_filled : (List ℕ → Option (List ℕ)) → Option (List ℕ) → FilePlace → ConfigLines
+    → (ConfigLines → Outcome) → Outcome
+named_filled files None place lines next = next lines
+named_filled files (Some name) place lines next =
+    opened (files name) most_append name (λ text. next (with_file place text lines))
 
--- the lines of a configuration, with these transform lines in the place of theirs
-abbrev pub with_transforms : List TransformLine → ConfigLines → ConfigLines
-with_transforms ts lines = record { transforms = ts; plugins = lines.plugins }
+-- of its file
+abbrev pub place_filled : (List ℕ → Option (List ℕ)) → FilePlace → ConfigLines → (ConfigLines → Outcome)
+    → Outcome
+place_filled files place lines next = named_filled files (file_at lines place) place lines next
 
--- goes on with the lines of a configuration, whose transform lines are filled
-abbrev pub lines_filled : (List ℕ → Option (List ℕ)) → ConfigLines → (ConfigLines → Outcome) → Outcome
-lines_filled files lines next = filled files lines.transforms (λ ts. next (with_transforms ts lines))
+-- goes on with the lines, of which those at these places, in their order, have the texts of their files
+abbrev pub lines_filled : (List ℕ → Option (List ℕ)) → List FilePlace → ConfigLines → (ConfigLines → Outcome)
+    → Outcome
+lines_filled files [] lines next = next lines
+lines_filled files (p ∷ ps) lines next =
+    place_filled files p lines (λ filled. lines_filled files ps filled next)
 
--- a configuration is read and understood, and the files of its lines are read
+-- a configuration is read and understood, some part of the program acts on each line, and the files of its
+-- lines are read in the order of the text
 abbrev pub set_up : (List ℕ → Option (List ℕ)) → List ℕ → (ConfigLines → Outcome) → Outcome
 set_up files config next =
-    opened (files config) most_config config
-    (λ bytes. understood (config_of bytes) (λ lines. lines_filled files lines next))
+    opened (files config) most_config config (λ bytes. understood (config_of bytes)
+    (λ lines places. acted (first_idle bytes) (lines_filled files places lines next)))
 
 -- what a command makes of the lines and its input: `transform` passes a body through the transform lines, and
 -- those of hook plugins have no effect on it; `replay` runs a recording under all of them

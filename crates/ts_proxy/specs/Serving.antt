@@ -1,15 +1,17 @@
 -- What `serve` leaves of the net: what it was handed, and why serving it ended.
-use Rattle.std.specs.Prelude.{◌≡◌, ◌≤◌, ◌⊎◌, ⊤, ℕ, Bool, true, Option, Some}
+use Rattle.std.specs.Prelude.{◌≡◌, ◌≤◌, ◌⊎◌, ⊤, ℕ, List, Bool, true, Option, Some}
 use Rattle.ts_config.specs.Setup.{lines_of}
 use Rattle.ts_config.specs.declared.setup.Setup.{Setup}
 use Rattle.ts_link.specs.Counts.{Rose}
 use Rattle.ts_link.specs.Seen.{ShelfSeen}
 use Rattle.ts_link.specs.declared.link.Link as link
 use Rattle.ts_serve.specs.Served.{AreRetired, HandsAllOver, HasNotFailed, IsNotClosed}
-use Rattle.ts_serve.specs.Transactions.{IsTxnDone}
-use Rattle.ts_serve.specs.declared.door.TheConstants.{PLACES}
+use Rattle.ts_serve.specs.Exchanges.{IsTxnDone}
+use Rattle.ts_serve.specs.declared.acceptor.TheConstants.{PLACES}
 use Rattle.ts_stock.specs.StockTransform.{stock_transform}
 use Rattle.ts_txn.specs.Net.{NetSeen}
+use Rattle.ts_txn.specs.declared.net.Began.{Began}
+use Rattle.ts_txn.specs.declared.net.Began.TheVariants as B
 use Rattle.ts_txn.specs.declared.retired.Retired.{Retired}
 use Rattle.ts_upstream.specs.declared.upstream.Upstream as upstream
 use Rattle.ts_proxy.specs.declared.answer.Answer.{Answer}
@@ -70,9 +72,25 @@ module _ {C O : Type 0} (client : link.Ghosts C) (origin : link.Ghosts O) (both 
         → (Rose shelf.faults shelf'.faults → ⊥) → (Rose old.counts.faults new.counts.faults → ⊥)
         → (n ≡ done) ⊎ (n ≡ out_of_memory)
 
-  -- What a task leaves of a net: one that does not serve it leaves it as it is.
-  abbrev pub LeavesNet : Bool → Bool → ShelfSeen → ShelfSeen → Option Task → ℕ → NetSeen C O → NetSeen C O
-      → Type 0
+-- It was let begin at these two addresses before anything else, and was used then only if it was ready.
+pub record BeginsAt {N : Type 0} (begins : List ℕ → List ℕ → Began → N → N → Type 0) (listen origin : List ℕ)
+    (old new : N) : Type 0 where
+  pub between : N
+  pub answer : Began
+  pub began : begins listen origin answer old between
+  pub only : (answer ≡ B.Ready) ⊎ (new ≡ between)
+
+-- it was not used, or it was let begin
+abbrev pub IsLetBegin : {N : Type 0} → (List ℕ → List ℕ → Began → N → N → Type 0) → List ℕ → List ℕ → N → N
+    → Type 0
+IsLetBegin begins listen origin old new = (new ≡ old) ⊎ BeginsAt begins listen origin old new
+
+module _ {N C O : Type 0} (client : link.Ghosts C) (origin : link.Ghosts O) (both : upstream.Ghosts O C)
+    (begins : List ℕ → List ℕ → Began → N → N → Type 0) (seen : N → NetSeen C O) where
+  -- What a task leaves of a net: one that serves it lets it begin at the two addresses of its words, as they
+  -- are, and one that does not serve it leaves it as it is.
+  abbrev pub LeavesNet : Bool → Bool → ShelfSeen → ShelfSeen → Option Task → ℕ → N → N → Type 0
   LeavesNet tells net_tells shelf shelf' (Some (Serve words)) n old new =
-      IsServedNet tells net_tells shelf shelf' words n old new
-  LeavesNet tells net_tells shelf shelf' _ n old new = new ≡ old
+      IsServedNet client origin both tells net_tells shelf shelf' words n (seen old) (seen new)
+      × IsLetBegin begins words.listen words.origin old new
+  LeavesNet tells net_tells shelf shelf' _ n old new = seen new ≡ seen old

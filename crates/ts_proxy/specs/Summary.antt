@@ -1,6 +1,6 @@
 -- What `generate` runs and writes: a recording that three numbers stand for, under one configuration, and the
 -- summary of what its transactions came to.
-use Rattle.std.specs.Prelude.{◌≡◌, ℕ, ◌+◌, ◌*◌, ◌%◌, ◌^◌, List, [], ◌∷◌, ◌++◌, length, codes}
+use Rattle.std.specs.Prelude.{◌≡◌, ℕ, ◌+◌, List, [], ◌∷◌, ◌++◌, length, codes}
 use Rattle.std.specs.Fmt.{decimal}
 use Rattle.ts_config.specs.Bytes.{letter_a}
 use Rattle.ts_config.specs.Setup.{ConfigLines, transforms_alone}
@@ -12,6 +12,7 @@ use Rattle.ts_proxy.specs.declared.command.GenerateTask.{GenerateTask}
 use Rattle.ts_proxy.specs.declared.summary.Summary.{Summary}
 use Rattle.ts_record.specs.Generator.{generated}
 use Rattle.ts_record.specs.Grammar.{TxnPieces}
+use Rattle.ts_record.specs.Sum.{sum_of}
 use Rattle.ts_record.specs.declared.report.ReportBlock.{ReportBlock}
 use Rattle.ts_replay.specs.Reports.{AreBlocksOn}
 
@@ -52,18 +53,6 @@ whole_count (b ∷ bs) = whole_once b.end + whole_count bs
 abbrev pub bodies : List ReportBlock → List ℕ
 bodies [] = []
 bodies (b ∷ bs) = b.content ++ bodies bs
-
-abbrev pub sum_factor : ℕ
-sum_factor = 31
-
--- the sum with one byte more: so many times the sum before, and the byte, in 64 bits
-abbrev pub sum_with : ℕ → ℕ → ℕ
-sum_with sum b = (sum * sum_factor + b) % 2 ^ 64
-
--- the sum with bytes more
-abbrev pub sum_of : ℕ → List ℕ → ℕ
-sum_of sum [] = sum
-sum_of sum (b ∷ bs) = sum_of (sum_with sum b) bs
 
 -- the summary of transactions that came to these blocks
 abbrev pub summary_of : List ReportBlock → Summary

@@ -46,7 +46,11 @@ fn fixed_setup(alloc: Global) -> Result<Setup, NoMemory>
     transforms.push(TransformLine::Prepend { text })?;
     Ok(Setup {
         transforms,
+        requests: Vec::new(alloc),
+        intercepts: Vec::new(alloc),
         plugins: Vec::new(alloc),
+        tap: None,
+        files: Vec::new(alloc),
     })
 }
 

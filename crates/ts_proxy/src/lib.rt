@@ -5,7 +5,9 @@
 mod answer;
 mod command;
 mod drive;
+mod filling;
 mod generate;
+mod idle;
 mod laws;
 mod number;
 mod reading;

@@ -4,12 +4,12 @@ ghost use Rattle.std.specs.Arc.{arc_value};
 ghost use Rattle.ts_link.specs.Seen.{SinkSeen};
 ghost use Rattle.ts_proxy.specs.Ends.{status_of};
 ghost use Rattle.ts_proxy.specs.Performed.{IsPerformed};
-ghost use Rattle.ts_proxy.specs.Serving.{IsNetLeft, IsServedNet};
+ghost use Rattle.ts_proxy.specs.Serving.{IsLetBegin, IsNetLeft, IsServedNet};
 ghost use Rattle.ts_proxy.specs.Words.{Serve};
 ghost use Rattle.ts_replay.specs.Recorded.{HasPlainLines};
 ghost use Rattle.ts_serve.specs.Served.{AreRetired};
-ghost use Rattle.ts_serve.specs.Transactions.{IsTxnDone};
-ghost use Rattle.ts_serve.specs.declared.door.TheConstants.{PLACES};
+ghost use Rattle.ts_serve.specs.Exchanges.{IsTxnDone};
+ghost use Rattle.ts_serve.specs.declared.acceptor.TheConstants.{PLACES};
 ghost use Rattle.ts_stock.specs.StockTransform.{stock_transform};
 ghost use Rattle.ts_thread.specs.declared.TheConstants.{MOST_THREADS};
 ghost use Rattle.ts_txn.specs.Net.{IsFreshNet};
@@ -22,7 +22,7 @@ use std::sync::{Arc, Wait};
 use std::thread::Threads;
 use ts_config::Setup;
 use ts_link::{Clock, Gate, Shelf};
-use ts_serve::{Served, serve_transactions};
+use ts_serve::{Host, Served, serve_transactions};
 use ts_stock::Stock;
 use ts_txn::{Began, Net};
 use ts_words::ServeTask;
@@ -45,14 +45,17 @@ fn serve_begun<N: Net, G: Gate + Sync, C: Clock + Sync, R: Threads + Wait + Sync
         (N.seen net.old) (N.seen net.new) }
     ensures left { IsNetLeft result task.now.connections (N.seen net.old) (N.seen net.new) }
 {
-    match serve_transactions::<N, Stock, G, C, R>(
+    let host = Host {
         rt,
         alloc,
+        gate,
+        clock,
+    };
+    match serve_transactions::<N, Stock, G, C, R>(
+        &host,
         setup,
         task.threads,
         task.connections,
-        gate,
-        clock,
         net,
     ) {
         Served::Whole => Answer::Done,
@@ -78,6 +81,8 @@ fn serve_net<N: Net, G: Gate + Sync, C: Clock + Sync, R: Threads + Wait + Sync>(
         (IsTxnDone N.Client.Link N.Origin.Link N.Origin.Upstream.own stock_transform setup PLACES)
         (N.seen net.old) (N.seen net.new) }
     ensures left { IsNetLeft result task.now.connections (N.seen net.old) (N.seen net.new) }
+    ensures begun { IsLetBegin N.begins (words_of task.now).listen (words_of task.now).origin
+        net.old net.new }
 {
     let Ok(setup) = Arc::new(alloc, setup) else {
         return Answer::OutOfMemory;
@@ -107,6 +112,8 @@ pub fn perform_serve<S: Shelf, N: Net, G: Gate + Sync, C: Clock + Sync, R: Threa
     ensures net { IsServedNet N.Client.Link N.Origin.Link N.Origin.Upstream.own S.tells N.tells
         (S.seen shelf.old) (S.seen shelf.new) (words_of task.now) (status_of result.answer)
         (N.seen net.old) (N.seen net.new) }
+    ensures begun { IsLetBegin N.begins (words_of task.now).listen (words_of task.now).origin
+        net.old net.new }
 {
     let setup = match set_up(alloc, shelf, task.config) {
         Ok(setup) => setup,

@@ -1,16 +1,13 @@
 //! The summary of transactions that were run: how many, how many ended whole, and their bodies by length and
 //! sum.
 ghost use Rattle.std.specs.Prelude.{◌≡◌, ◌≤◌, ◌++◌, IfOk, OnOk};
-ghost use Rattle.ts_proxy.specs.Summary.{number_line, sum_of, sum_with, summary_of, summary_text, whole_once};
+ghost use Rattle.ts_proxy.specs.Summary.{number_line, summary_of, summary_text, whole_once};
 
 use itoa::Buffer;
 use std::alloc::Global;
 use ts_hooks::TxnEnd;
 use ts_link::NoMemory;
-use ts_record::ReportBlock;
-
-// By what the sum is multiplied for each byte.
-const SUM_FACTOR: u64 = 31;
+use ts_record::{ReportBlock, sum_of};
 
 /// What is said of transactions that were run.
 #[derive(Clone, Copy)]
@@ -33,24 +30,6 @@ fn whole_once(end: TxnEnd) -> u64
         TxnEnd::Whole => 1,
         _ => 0,
     }
-}
-
-// The sum with one byte more.
-fn sum_with(sum: u64, byte: u8) -> u64
-    ensures { result ≡ sum_with sum byte }
-{
-    sum.wrapping_mul(SUM_FACTOR).wrapping_add(u64::from(byte))
-}
-
-// The sum with these bytes more.
-fn sum_of(before: u64, bytes: &[u8]) -> u64
-    ensures { result ≡ sum_of before bytes.now }
-{
-    let mut sum = before;
-    for byte in bytes {
-        sum = sum_with(sum, *byte);
-    }
-    sum
 }
 
 // The summary of transactions that came to these blocks. Bodies of more bytes than 64 bits count are answered

@@ -93,9 +93,9 @@ fn perform<S: Shelf, N: Net, K: Sink, C: Clock + Sync, G: Gate + Sync, R: Thread
     ensures performed { IsPerformed (threaded_task task.now)
         S.tells K.tells (S.seen shelf.old) (S.seen shelf.new) (K.seen out.old) (K.seen out.new)
         result.answer result.journals.items }
-    ensures net { LeavesNet N.Client.Link N.Origin.Link N.Origin.Upstream.own S.tells N.tells
+    ensures net { LeavesNet N.Client.Link N.Origin.Link N.Origin.Upstream.own N.begins N.seen S.tells N.tells
         (S.seen shelf.old) (S.seen shelf.new) (Some (threaded_task task.now)) (status_of result.answer)
-        (N.seen net.old) (N.seen net.new) }
+        net.old net.new }
 {
     match task {
         ThreadedTask::Replay(replay) => perform_replay(rt, alloc, replay, shelf, out, gate),
@@ -160,11 +160,12 @@ pub fn run<
     // failed read it names a file that the work came to.
     ensures line { (answer : Answer) × IsAnswerOf S.tells (S.seen shelf.old) (task_of words.now) answer
         × SaysLine E.tells (E.seen err.old) (E.seen err.new) (task_of words.now) result.status answer }
-    // What the net gave and was handed where it was served, and that it failed or ended where that is said.
-    // Another command leaves it as it is.
-    ensures served { LeavesNet N.Client.Link N.Origin.Link N.Origin.Upstream.own S.tells N.tells
-        (S.seen shelf.old) (S.seen shelf.new) (task_of words.now) result.status
-        (N.seen net.old) (N.seen net.new) }
+    // What the net gave and was handed where it was served, and that it failed or ended where that is said;
+    // it was let begin at the two addresses of the words, or was not used. Another command leaves it as it
+    // is.
+    ensures served { LeavesNet N.Client.Link N.Origin.Link N.Origin.Upstream.own N.begins N.seen
+        S.tells N.tells (S.seen shelf.old) (S.seen shelf.new) (task_of words.now) result.status
+        net.old net.new }
 {
     if begins_transform(words) {
         return run_transform(alloc, words, shelf, out, err);

@@ -1,19 +1,18 @@
 //! The program's words, run over files and sinks in memory.
 
-use std::alloc::Global;
+use std::process::Abort;
 use std::sync::Wait;
 use std::thread::Threads;
 use ts_journal::Journal;
-use ts_link::{Gate, MemShelf, MemSink, NoMemory, OpenGate, StepClock};
+use ts_link::{Gate, MemShelf, MemSink, OpenGate, StepClock};
 use ts_proxy::run;
 use ts_txn::MemNet;
 
+/// Why a run has no outcome.
+pub const MEMORY: &str = "memory lacks";
+
 /// The words that pass the body `b` through the configuration `c`.
 pub const TRANSFORM: &[&str] = &["transform", "c", "b"];
-
-/// How the program says that words are of no command.
-pub const USAGE: &[u8] =
-    b"tsx: usage: transform CONFIG BODY | replay [--threads N] CONFIG RECORDING | serve --listen L --origin A --config F [--threads N] [--connections N] | generate SEED COUNT SIZE\n";
 
 /// The words that replay the recording `r` under the configuration `c`, without a number of threads.
 pub const REPLAY: &[&str] = &["replay", "c", "r"];
@@ -43,57 +42,69 @@ pub struct Remains {
 }
 
 /// A sink that takes as much a call as it is given.
-pub fn wide_sink(alloc: Global) -> MemSink {
-    MemSink::make(alloc, usize::MAX, Vec::new(alloc))
+pub fn wide_sink<R: AllocGlobal>(rt: &R) -> MemSink {
+    MemSink::make(rt.alloc(), usize::MAX, Vec::new(rt.alloc()))
 }
 
 /// A sink that takes so many bytes a call, and whose write of this number fails, counted from 1.
-pub fn failing_sink(alloc: Global, take: usize, failing: u64) -> Result<MemSink, NoMemory> {
-    Ok(MemSink::make(alloc, take.max(1), vec![in alloc; failing]?))
+pub fn failing_sink<R: Abort + AllocGlobal>(rt: &R, take: usize, failing: u64) -> MemSink {
+    let numbers = vec![in rt.alloc(); failing].expect(rt, MEMORY);
+    MemSink::make(rt.alloc(), take.max(1), numbers)
+}
+
+/// A shelf with these files.
+pub fn shelf_with<R: Abort + AllocGlobal>(rt: &R, files: &[(&str, &[u8])]) -> MemShelf {
+    let mut shelf = MemShelf::make(rt.alloc());
+    for (name, text) in files {
+        shelf.add(name, text).expect(rt, MEMORY);
+    }
+    shelf
 }
 
 /// A shelf with a configuration `c`, a recording `r` and a file `f` with a line of HTML.
-pub fn shelf_of(alloc: Global, config: &[u8], recording: &[u8]) -> Result<MemShelf, NoMemory> {
-    let mut shelf = MemShelf::make(alloc);
-    shelf.add("c", config)?;
-    shelf.add("f", b"<hr>")?;
-    shelf.add("r", recording)?;
-    Ok(shelf)
+pub fn shelf_of<R: Abort + AllocGlobal>(rt: &R, config: &[u8], recording: &[u8]) -> MemShelf {
+    shelf_with(rt, &[("c", config), ("f", b"<hr>"), ("r", recording)])
 }
 
 /// What a command leaves, whose handlers pass this gate.
-pub fn left_by<R: Threads + Wait + Sync, G: Gate + Sync>(
+pub fn left_by<R: Abort + AllocGlobal + Threads + Wait + Sync, G: Gate + Sync>(
     rt: &R,
-    alloc: Global,
     words: &[&str],
     shelf: MemShelf,
     out: MemSink,
     gate: &G,
-) -> Result<Remains, NoMemory> {
-    let err = MemSink::make(alloc, 7, Vec::new(alloc));
-    left_in(rt, alloc, words, shelf, out, err, gate)
+) -> Remains {
+    let err = MemSink::make(rt.alloc(), 7, Vec::new(rt.alloc()));
+    left_in(rt, words, shelf, out, err, gate)
+}
+
+// The words as texts.
+fn said<R: Abort + AllocGlobal>(rt: &R, words: &[&str]) -> Vec<String> {
+    let mut said = Vec::new(rt.alloc());
+    for word in words {
+        let word = String::from_str(rt.alloc(), word).expect(rt, MEMORY);
+        said.push(word).expect(rt, MEMORY);
+    }
+    said
 }
 
 /// The same, with what is said going into this sink.
-pub fn left_in<R: Threads + Wait + Sync, G: Gate + Sync>(
+pub fn left_in<R: Abort + AllocGlobal + Threads + Wait + Sync, G: Gate + Sync>(
     rt: &R,
-    alloc: Global,
     words: &[&str],
     mut shelf: MemShelf,
     mut out: MemSink,
     mut err: MemSink,
     gate: &G,
-) -> Result<Remains, NoMemory> {
-    let mut said = Vec::new(alloc);
-    for word in words {
-        said.push(String::from_str(alloc, word)?)?;
-    }
+) -> Remains {
+    let alloc = rt.alloc();
+    let words = said(rt, words);
     let mut net = MemNet::make(alloc, Vec::new(alloc), Vec::new(alloc), Vec::new(alloc));
     let clock = StepClock::make(0);
     let ended = run(
         rt,
         alloc,
-        said.as_slice(),
+        words.as_slice(),
         &mut shelf,
         &mut net,
         &mut out,
@@ -101,22 +112,21 @@ pub fn left_in<R: Threads + Wait + Sync, G: Gate + Sync>(
         &clock,
         gate,
     );
-    Ok(Remains {
+    Remains {
         status: ended.status,
         out,
         err,
         journals: ended.journals,
-    })
+    }
 }
 
 /// What words leave over a configuration and a recording.
-pub fn replayed<R: Threads + Wait + Sync>(
+pub fn replayed<R: Abort + AllocGlobal + Threads + Wait + Sync>(
     rt: &R,
-    alloc: Global,
     words: &[&str],
     config: &[u8],
     recording: &[u8],
-) -> Result<Remains, NoMemory> {
-    let shelf = shelf_of(alloc, config, recording)?;
-    left_by(rt, alloc, words, shelf, wide_sink(alloc), &OpenGate::make())
+) -> Remains {
+    let shelf = shelf_of(rt, config, recording);
+    left_by(rt, words, shelf, wide_sink(rt), &OpenGate::make())
 }

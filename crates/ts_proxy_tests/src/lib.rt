@@ -1,5 +1,5 @@
-//! Whole runs of the commands over forms in memory: bodies that are transformed, recordings that are run on
-//! threads, and what is written and said of them.
+//! Whole runs of the commands over forms in memory, of which no row of `ts_command_rows` tells: journals, gates,
+//! reads and writes that fail, and sizes that are made.
 #![tactic(auto)]
 
 #[cfg(test)]

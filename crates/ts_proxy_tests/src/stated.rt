@@ -1,4 +1,4 @@
-//! Texts that rows share (lines, requests, responses, the heads that clients get, the proxy's own answers),
+//! Texts that runs share (lines, requests, responses, the heads that clients get, the proxy's own answers),
 //! and what is stated with them of transactions.
 
 use crate::report::{Stated, StatedEnd};
@@ -19,13 +19,6 @@ pub const GET_SENT: &[u8] =
 /// A request without a host.
 pub const HOSTLESS: &[u8] = b"GET / HTTP/1.1\r\n\r\n";
 
-/// A request for the head of a page.
-pub const HEAD: &[u8] = b"HEAD / HTTP/1.1\r\nHost: a\r\n\r\n";
-
-/// What the origin gets of it.
-pub const HEAD_SENT: &[u8] =
-    b"HEAD / HTTP/1.1\r\nhost: a\r\nvia: 1.1 tsx\r\nconnection: close\r\n\r\n";
-
 /// A response of three bytes.
 pub const ABC: &[u8] = b"HTTP/1.1 200 OK\r\nContent-Length: 3\r\n\r\nabc";
 
@@ -43,9 +36,6 @@ pub const CHUNKED: &[u8] =
 pub const SIZED: &[u8] =
     b"HTTP/1.1 200 OK\r\nvia: 1.1 tsx\r\ncontent-length: 3\r\nconnection: close\r\n\r\n";
 
-/// The client's head of a body up to the close, and of none.
-pub const PLAIN: &[u8] = b"HTTP/1.1 200 OK\r\nvia: 1.1 tsx\r\nconnection: close\r\n\r\n";
-
 /// An answer of the proxy's own.
 #[derive(Clone, Copy)]
 pub struct StatedAnswer<'a> {
@@ -58,20 +48,6 @@ pub const BAD_REQUEST: StatedAnswer<'static> = StatedAnswer {
     head: b"HTTP/1.1 400 Bad Request\r\ncontent-type: text/plain\r\ncontent-length: 16\r\n\
 connection: close\r\n\r\n",
     body: b"400 Bad Request\n",
-};
-
-/// The answer to a request whose host is denied.
-pub const FORBIDDEN: StatedAnswer<'static> = StatedAnswer {
-    head: b"HTTP/1.1 403 Forbidden\r\ncontent-type: text/plain\r\ncontent-length: 14\r\n\
-connection: close\r\n\r\n",
-    body: b"403 Forbidden\n",
-};
-
-/// The answer to a request that is not served.
-pub const NOT_IMPLEMENTED: StatedAnswer<'static> = StatedAnswer {
-    head: b"HTTP/1.1 501 Not Implemented\r\ncontent-type: text/plain\r\ncontent-length: 20\r\n\
-connection: close\r\n\r\n",
-    body: b"501 Not Implemented\n",
 };
 
 /// The answer where the origin gives none to pass on.

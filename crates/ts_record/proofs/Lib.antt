@@ -1,4 +1,5 @@
 pub mod Apart
+pub mod BlockParts
 pub mod Counting
 pub mod Failing
 pub mod Fails

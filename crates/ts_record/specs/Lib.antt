@@ -1,8 +1,10 @@
 pub mod Generator
 pub mod Grammar
 pub mod Keywords
+pub mod Limits
 pub mod Links
 pub mod Offsets
 pub mod Printing
 pub mod Refusing
 pub mod Report
+pub mod Sum

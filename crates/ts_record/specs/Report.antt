@@ -1,11 +1,12 @@
 -- The report on a recording, block by block.
-use Rattle.std.specs.Prelude.{ℕ, ◌+◌, List, [], ◌∷◌, ◌++◌, codes, length, ⊤}
+use Rattle.std.specs.Prelude.{ℕ, ◌+◌, List, [], ◌∷◌, ◌++◌, codes, length, Option, Some, None, ⊤}
 use Rattle.std.specs.Fmt.{decimal}
 use Rattle.std.specs.List.{AllByRecursion}
 use Rattle.ts_hooks.specs.declared.txn_end.TxnEnd.{TxnEnd}
 use Rattle.ts_hooks.specs.declared.txn_end.TxnEnd.TheVariants as e
 use Rattle.ts_link.specs.Texts.{line_feed}
 use Rattle.ts_record.specs.declared.report.ReportBlock.{ReportBlock}
+use Rattle.ts_record.specs.declared.report.TapLine.{TapLine}
 
 -- the word of an end in a report: that of a client's fault says that the recording has its client leave; the
 -- other ends have none, since a recorded origin does not fail
@@ -46,14 +47,22 @@ request_lines number request =
 abbrev pub head_lines : TxnEnd → List ℕ → List ℕ
 head_lines end head = codes "end " ++ end_word end ++ line_feed ∷ [] ++ sized_text (codes "head ") head
 
+-- the lines on the body that the origin got, if there are any
+abbrev pub upload_text : Option (List ℕ) → List ℕ
+upload_text None = []
+upload_text (Some bytes) = sized_text (codes "upload ") bytes
+
+-- the line of a tap, if there is one: how many bytes it counted, and their sum
+abbrev pub tap_text : Option TapLine → List ℕ
+tap_text None = []
+tap_text (Some line) =
+    codes "tap " ++ decimal line.count ++ codes " " ++ decimal line.sum ++ line_feed ∷ []
+
 -- the lines on the transaction of this number
 abbrev pub block_text : ℕ → ReportBlock → List ℕ
 block_text number block =
-    codes "txn " ++ decimal number ++ line_feed ∷ []
-    ++ sized_text (codes "request ") block.request
-    ++ codes "end " ++ end_word block.end ++ line_feed ∷ []
-    ++ sized_text (codes "head ") block.head
-    ++ body_text block.end block.content
+    request_lines number block.request ++ upload_text block.upload ++ head_lines block.end block.head
+    ++ body_text block.end block.content ++ tap_text block.tap
 
 -- the first line of a report, with the version of its recording
 abbrev pub report_begin : ℕ → List ℕ

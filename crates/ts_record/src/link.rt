@@ -3,13 +3,15 @@ ghost use Rattle.std.specs.Prelude.{◌≡◌, ◌<◌, Some, length, true, fals
 ghost use Rattle.std.proofs.Common.{arith};
 ghost use Rattle.std.specs.Option.{is_some};
 ghost use Rattle.ts_link.specs.Inputs.{bytes_of, next_answer};
-ghost use Rattle.ts_link.specs.Link.{Reads, Writes, all_of};
+ghost use Rattle.ts_link.specs.Link.{Reads, WaitsAtStalls, Writes, all_of};
+ghost use Rattle.ts_link.specs.LinkAnswers.{got_again};
 ghost use Rattle.ts_link.specs.MemLink.{IsPut, after_read, after_write, look_of, write_answer};
+ghost use Rattle.ts_upstream.specs.Uploads.{MovesNothing};
 ghost use Rattle.ts_record.specs.Links.{GoesAsRecorded, IsNewSide, recorded_side};
 
 use std::alloc::Global;
 use std::marker::Model;
-use ts_link::{Got, Link, MemLink, Piece, Put};
+use ts_link::{Got, Link, MemLink, Piece, Put, Sourced};
 use ts_upstream::{Uploaded, Upstream};
 
 /// One side of a recorded transaction: it gives the pieces of its side, waits at the stalls between them, and
@@ -62,15 +64,6 @@ impl RecordedLink {
     {
         self.link.written()
     }
-
-    /// What holds of every one: what went wrong is what the recording says, and what it gave and may still
-    /// give are the bytes of its side.
-    pub fn known(&self)
-        ensures goes { GoesAsRecorded self.now }
-        ensures whole { all_of (look_of self.now) ≡ (look_of self.now).source }
-    {
-        self.link.known();
-    }
 }
 
 impl Link for RecordedLink {
@@ -80,12 +73,15 @@ impl Link for RecordedLink {
 
     ghost goes = { λ a b. ⊤ };
 
+    ghost still = { λ a b. ⊤ };
+
     fn read(&mut self, into: &mut [u8]) -> Got
         requires { 0 < length into.old }
         ensures reads { Reads true (look_of self.old) (look_of self.new) result into.new }
         ensures goes { ⊤ }
         ensures answer { result ≡ next_answer (length into.old) self.old.input.ahead }
         ensures after { self.new ≡ after_read self.old (length into.old) result }
+        ensures stalls { WaitsAtStalls (look_of self.old) (got_again result) }
     {
         self.link.read(into)
     }
@@ -107,6 +103,21 @@ impl Link for RecordedLink {
     ghost stays = { λ l. tt };
 
     ghost goes_on = { λ l m n g h. tt };
+
+    ghost goes_still = { λ l m g. tt };
+
+    ghost still_on = { λ l m n g h. tt };
+}
+
+impl Sourced for RecordedLink {
+    // What went wrong is what the recording says, and what it gave and may still give are the bytes of its
+    // side.
+    fn known(&self)
+        ensures goes { GoesAsRecorded self.now }
+        ensures whole { all_of (look_of self.now) ≡ (look_of self.now).source }
+    {
+        self.link.known();
+    }
 }
 
 // It has no upload to move, and belongs to any client.
@@ -116,6 +127,8 @@ impl<C: Link> Upstream<C> for RecordedLink {
     ghost refuses = { λ o list. false ≡ true };
 
     ghost upload_left = { λ c o. Some 0 };
+
+    ghost one_upload = { MovesNothing };
 
     fn upload(&mut self, _client: &mut C) -> Uploaded
         ensures done { result ≡ Uploaded.Done }

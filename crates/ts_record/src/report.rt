@@ -1,7 +1,7 @@
 //! The report on a recording: the text of what one transaction came to.
 ghost use Rattle.std.specs.Prelude.{◌≡◌, ◌++◌, IfOk, OnOk};
 ghost use Rattle.ts_record.specs.Printing.{KeepsFront};
-ghost use Rattle.ts_record.specs.Report.{IsReported, end_word, sized_text, request_lines, head_lines};
+ghost use Rattle.ts_record.specs.Report.{IsReported, end_word, sized_text, request_lines, upload_text, head_lines, body_text, tap_text};
 ghost use Rattle.ts_record.specs.Report.{block_text, report_begin};
 
 use itoa::Buffer;
@@ -12,17 +12,29 @@ use ts_link::{NoMemory, Octets};
 /// The last line of a report.
 pub const REPORT_END: &[u8] = b"done\n";
 
+/// What a tap counted of the body that a client took.
+#[derive(Clone, Copy)]
+pub struct TapLine {
+    pub count: u64,
+    /// The sum of these bytes (`sum_of`, from 0).
+    pub sum: u64,
+}
+
 /// What the report shows of a transaction's block (that of `ts_block`): all but the mode of its body.
 #[derive(Drop)]
 pub struct ReportBlock {
     /// The head that was sent to the origin, empty where none was.
     pub request: Octets,
+    /// The body that was sent to the origin, without its framing, where the request had one that was taken.
+    pub upload: Option<Octets>,
     /// How it ended: with a client's fault, where the recording has its client leave.
     pub end: TxnEnd,
     /// The head that was sent to the client, empty where nothing was.
     pub head: Octets,
     /// The body that was sent to the client, without its framing.
     pub content: Octets,
+    /// What a tap counted of it, where there is one.
+    pub tap: Option<TapLine>,
 }
 
 fn end_word(end: TxnEnd) -> &'static [u8]
@@ -75,6 +87,17 @@ fn print_request(out: &mut Vec<u8>, number: u64, request: &[u8]) -> Result<(), N
     print_sized(out, b"request ", request)
 }
 
+// Prints the lines on the body that the origin got, if there are any.
+fn print_upload(out: &mut Vec<u8>, upload: &Option<Octets>) -> Result<(), NoMemory>
+    ensures text { OnOk result (out.new.items ≡ out.old.items ++ upload_text upload.now) }
+    ensures front { KeepsFront out.old.items out.new.items }
+{
+    match upload {
+        Some(bytes) => print_sized(out, b"upload ", bytes.bytes()),
+        None => Ok(()),
+    }
+}
+
 // Prints the lines on its end, and on the head that the client got.
 fn print_head(out: &mut Vec<u8>, end: TxnEnd, head: &[u8]) -> Result<(), NoMemory>
     requires { IsReported end }
@@ -87,8 +110,37 @@ fn print_head(out: &mut Vec<u8>, end: TxnEnd, head: &[u8]) -> Result<(), NoMemor
     print_sized(out, b"head ", head)
 }
 
+// Prints the lines on the body that the client got, which only a whole answer has.
+fn print_body(out: &mut Vec<u8>, end: TxnEnd, content: &[u8]) -> Result<(), NoMemory>
+    ensures text { OnOk result (out.new.items ≡ out.old.items ++ body_text end content.now) }
+    ensures front { KeepsFront out.old.items out.new.items }
+{
+    match end {
+        TxnEnd::Whole => print_sized(out, b"body ", content),
+        _ => Ok(()),
+    }
+}
+
+// Prints the line of a tap, if there is one.
+fn print_tap(out: &mut Vec<u8>, tap: Option<TapLine>) -> Result<(), NoMemory>
+    ensures text { OnOk result (out.new.items ≡ out.old.items ++ tap_text tap) }
+    ensures front { KeepsFront out.old.items out.new.items }
+{
+    let Some(line) = tap else {
+        return Ok(());
+    };
+    let mut count = Buffer::new();
+    let mut sum = Buffer::new();
+    out.extend_from_slice(b"tap ")?;
+    out.extend_from_slice(count.format(line.count).as_bytes())?;
+    out.push(b' ')?;
+    out.extend_from_slice(sum.format(line.sum).as_bytes())?;
+    out.push(b'\n')?;
+    Ok(())
+}
+
 /// Adds the lines on the transaction of this number, counted from 1, to a report. Only a whole answer has
-/// lines for its body.
+/// lines for its body. Those of an upload and of a tap stand where there is one.
 pub fn add_block(out: &mut Vec<u8>, number: u64, block: &ReportBlock) -> Result<(), NoMemory>
     requires { IsReported block.now.end }
     ensures text { OnOk result (out.new.items ≡ out.old.items ++ block_text number block.now) }
@@ -97,11 +149,10 @@ pub fn add_block(out: &mut Vec<u8>, number: u64, block: &ReportBlock) -> Result<
     ensures front { KeepsFront out.old.items out.new.items }
 {
     print_request(out, number, block.request.bytes())?;
+    print_upload(out, &block.upload)?;
     print_head(out, block.end, block.head.bytes())?;
-    if block.end == TxnEnd::Whole {
-        print_sized(out, b"body ", block.content.bytes())?;
-    }
-    Ok(())
+    print_body(out, block.end, block.content.bytes())?;
+    print_tap(out, block.tap)
 }
 
 /// The lines of a report on the transaction of this number, counted from 1.

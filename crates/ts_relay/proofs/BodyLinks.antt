@@ -32,7 +32,8 @@ use Rattle.ts_phases.specs.View.{LinkSide, View}
 use Rattle.ts_phases.specs.Ends.{IsFrontOf}
 use Rattle.ts_phases.specs.Moving.{WritesClient}
 use Rattle.ts_phases.specs.RelayMoves.{QueuesText, ReadsOrigin}
-use Rattle.ts_relay.specs.Feeding.{DrainsOrigin, FeedsBody, FeedsTo, GetsPart, OnGoes}
+use Rattle.ts_relay.specs.Feeding.{DrainsOrigin, FeedsBody, FeedsTo, OnGoes}
+use Rattle.ts_passing.specs.Feeding.{GetsPart}
 use Rattle.ts_relay.specs.Relaying.{AddsSome, StepsChain, short_end, step_after}
 use Rattle.ts_relay.specs.Duties.{MustReadOn, SettledAs, UnlessLacking}
 use Rattle.ts_relay.specs.BodyLinks.{HandlesLinks, HoldsLittle, KeepsQueued, KeepsShort, IsUnread}
@@ -60,6 +61,9 @@ calls_none l m same = subst (λ x. Calls l x false false) (sym same) (record {
   source = refl;
   name = refl;
   plan = refl;
+  carried = refl;
+  uploaded = refl;
+  before = refl;
   faults = refl;
   waits = refl;
   agains = no_more_same l.agains;
@@ -218,8 +222,8 @@ fed_holds : {P : Type 0} (v w : View) (r s : Relay P) → MustReadOn r
     → FeedsBody r s v.origin.inbox w.origin.inbox → HoldsLittle v r.driven.chain → HoldsLittle w
     s.driven.chain
 fed_holds v w r s must fed h =
-    let all : length v.origin.inbox ≡ length fed.piece + length w.origin.inbox = ap length fed.taken
-    ∙ length-append fed.piece w.origin.inbox in
+    let all : length v.origin.inbox ≡ length fed.feeds.piece + length w.origin.inbox = ap length fed.feeds.taken
+    ∙ length-append fed.feeds.piece w.origin.inbox in
     record {
       held = omega (arith, all, h.held);
       front = omega (
@@ -227,8 +231,8 @@ fed_holds v w r s must fed h =
         all,
         h.held,
         must.1.2,
-        fed.within,
-        fed_first (state_of s.body.phase) fed.part r.driven.chain s.driven.chain fed.gets,
+        fed.feeds.within,
+        fed_first (state_of s.body.phase) fed.feeds.part r.driven.chain s.driven.chain fed.feeds.gets,
       );
     }
 

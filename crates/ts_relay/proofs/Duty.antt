@@ -37,7 +37,7 @@ use Rattle.ts_relay.specs.declared.relay.TheConstants.{MAIN}
 use Rattle.ts_relay.specs.declared.relay.Relay.{Relay}
 use Rattle.ts_relay.specs.declared.relay.Short.{Short}
 use Rattle.ts_relay.proofs.Chaining.{grows_next}
-use Rattle.ts_relay.proofs.Early.{sends_kept}
+use Rattle.ts_passing.proofs.Early.{sends_kept}
 
 -- ---- a stage's event
 

@@ -46,7 +46,8 @@ use Rattle.ts_phases.specs.Ends as ends
 use Rattle.ts_relay.specs.Feeding.{OnGoes}
 use Rattle.ts_relay.specs.Finishing.{LeadsBody}
 use Rattle.ts_phases.specs.RelayMoves.{QueuesHead}
-use Rattle.ts_relay.specs.Relaying.{DrivesOn, IsShort, ReadsBody, RelaysBody, Sends, StepsChain, set_by_stage}
+use Rattle.ts_relay.specs.Relaying.{DrivesOn, IsShort, ReadsBody, RelaysBody, StepsChain, set_by_stage}
+use Rattle.ts_passing.specs.Sends.{Sends}
 use Rattle.ts_relay.specs.Duties.{relay_seats}
 use Rattle.ts_relay.specs.Entering.{BeginsChain, BeginsRelay, BeginsRunning, EntersBody, GetsStart}
 use Rattle.ts_relay.specs.Entering.{IsFreshRelay, IsUnbegun, CallsNeither}
@@ -57,7 +58,7 @@ use Rattle.ts_relay.specs.declared.relay.Relay.{Relay}
 use Rattle.ts_relay.specs.declared.relay.Short.{Short}
 use Rattle.ts_relay.specs.declared.relay.TheConstants.{FIRST, READER}
 use Rattle.ts_relay.proofs.Chaining.{grows_next}
-use Rattle.ts_relay.proofs.Early.{behind_none, sends_closed}
+use Rattle.ts_passing.proofs.Early.{behind_none, sends_closed}
 use Rattle.ts_relay.proofs.Relaying.{front_by}
 use Rattle.ts_phases.proofs.Responding.{relays_any}
 use Rattle.ts_relay.proofs.BodyTimes.{made_acts}

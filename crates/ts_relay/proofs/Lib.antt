@@ -3,12 +3,9 @@ pub mod BodyLinks
 pub mod BodyTimes
 pub mod Chaining
 pub mod Duty
-pub mod Early
 pub mod Entered
 pub mod Fed
 pub mod Finished
-pub mod Inserted
-pub mod InsertedStages
 pub mod LoweringBody
 pub mod LoweringEntry
 pub mod LoweringEvents
@@ -16,7 +13,6 @@ pub mod LoweringPays
 pub mod LoweringRelay
 pub mod LoweringRest
 pub mod LoweringStages
-pub mod Parting
 pub mod Relaying
 pub mod Settled
 pub mod Settling

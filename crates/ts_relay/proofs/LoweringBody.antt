@@ -20,10 +20,11 @@ use Rattle.ts_phases.specs.View.{LinkSide, View}
 use Rattle.ts_phases.specs.Moving.{WritesClient}
 use Rattle.ts_phases.specs.RelayMoves.{FramesEnd, FramesPiece, QueuesText, ReadsOrigin}
 use Rattle.ts_relay.specs.Feeding.{DrainsOrigin}
-use Rattle.ts_phases.specs.Lowering.{agains_left, end_room, if_told, passes, pump_weight, to_hear}
+use Rattle.ts_phases.specs.Lowering.{agains_left, end_room, if_told, pump_weight, to_hear}
+use Rattle.ts_passing.specs.Lines.{passes}
 use Rattle.ts_relay.specs.LoweringBody.{IsOfLines, body_left, body_work, chain_work, close_left, ended_left}
 use Rattle.ts_relay.specs.LoweringBody.{finish_left}
-use Rattle.ts_relay.proofs.Inserted.{changed_append, changed_behind, passing_more, stage_passes}
+use Rattle.ts_passing.proofs.Inserted.{changed_append, changed_behind, passing_more, stage_passes}
 use Rattle.ts_phases.proofs.Lowering.{comes_hear, least_came, least_went, none_fall, one_if, passes_less}
 use Rattle.ts_phases.proofs.Lowering.{read_comes, told_fewer, went_some}
 use Rattle.ts_phases.proofs.LoweringSteps.{Calm, reads_calm, sends_calm}

@@ -29,9 +29,10 @@ use Rattle.ts_block.specs.Heads.{HasResponse}
 use Rattle.ts_phases.specs.View.{LinkSide, View}
 use Rattle.ts_phases.specs.RelayMoves.{QueuesHead}
 use Rattle.ts_transform.specs.declared.transform.Transform as transform
-use Rattle.ts_relay.specs.Inserted.{AllChangeNoMore, AreOfLines, IsOfParts}
+use Rattle.ts_passing.specs.Inserted.{AllChangeNoMore, AreOfLines, IsOfParts}
 use Rattle.ts_phases.specs.Lowering.{agains_left, chain_room, end_room, enter_left, enter_work, head_room}
-use Rattle.ts_phases.specs.Lowering.{if_told, lines_length, own_room, passes, pump_weight, to_hear}
+use Rattle.ts_phases.specs.Lowering.{if_told, own_room, pump_weight, to_hear}
+use Rattle.ts_passing.specs.Lines.{lines_length, passes}
 use Rattle.ts_wire.specs.Limits.{head_limit}
 use Rattle.ts_relay.specs.BodyLinks.{HoldsLittle}
 use Rattle.ts_relay.specs.Duties.{SettledAs}
@@ -46,7 +47,7 @@ use Rattle.ts_relay.specs.declared.last_writes.BodyStep.TheVariants as S
 use Rattle.ts_phases.specs.declared.phase.Request.{Request}
 use Rattle.ts_relay.specs.declared.relay.Relay.{Relay}
 use Rattle.ts_relay.specs.declared.relay.Short.{Short}
-use Rattle.ts_relay.proofs.InsertedStages.{fresh_changes, fresh_work}
+use Rattle.ts_passing.proofs.InsertedStages.{fresh_changes, fresh_work}
 use Rattle.ts_phases.proofs.Lowering.{no_more_same, none_fall, passes_less}
 use Rattle.ts_relay.proofs.LoweringRelay.{same_lines}
 use Rattle.ts_phases.proofs.LoweringResponse.{response_fits}

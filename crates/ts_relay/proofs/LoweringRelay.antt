@@ -35,8 +35,9 @@ use Rattle.ts_phases.specs.Moving.{WritesClient}
 use Rattle.ts_phases.specs.RelayMoves.{FramesEnd, FramesPiece, QueuesNothing, ReadsOrigin}
 use Rattle.ts_relay.specs.Relaying.{step_after}
 use Rattle.ts_relay.specs.Duties.{MustEnd, MustReadOn, MustSend, WhileGoes}
-use Rattle.ts_relay.specs.Feeding.{DrainsOrigin, FeedsBody, FeedsTo, GetsPart, OnGoes, short_if}
-use Rattle.ts_relay.specs.Inserted.{AllChangeNoMore, ChangesNoMore}
+use Rattle.ts_relay.specs.Feeding.{DrainsOrigin, FeedsBody, FeedsTo, OnGoes, short_if}
+use Rattle.ts_passing.specs.Feeding.{GetsPart}
+use Rattle.ts_passing.specs.Inserted.{AllChangeNoMore, ChangesNoMore}
 use Rattle.ts_phases.specs.Lowering.{agains_left, end_room, if_told, pump_weight, to_hear}
 use Rattle.ts_relay.specs.LoweringBody.{HasNothingDue, IsOfLines, LowersBody, StaysOfLines, body_left}
 use Rattle.ts_relay.specs.LoweringBody.{body_work, calls_left, ended_left, has_come, left_after, relay_left}
@@ -366,16 +367,16 @@ module _ {P : Type 0} (ct ot : Bool) (must : Type 0) (setup : Setup) (rest : P �
         → (ct ≡ true → ot ≡ true → state_of r.body.phase ≡ B.Unfinished) → SameTable
         → s.reader ≡ r.reader → LowersBody ct ot must setup rest S.Goes v w r s a b
     feeds_goes fed drains goes unfinished same reader =
-        let got = gets_some (state_of s.body.phase) fed.part fed.gets in
+        let got = gets_some (state_of s.body.phase) fed.feeds.part fed.feeds.gets in
         lowers_by S.Goes v w r s a b reader (same_lines setup rest r.driven.chain s.driven.chain got.3)
         (λ told also of.
         with_table same (relay_left setup rest v r) (feeds_on setup rest (calls_left r.driven) v w
-        r.driven.chain s.driven.chain (has_come r) (has_come s) fed.piece got.0 drains fed.taken of got.3
+        r.driven.chain s.driven.chain (has_come r) (has_come s) fed.feeds.piece got.0 drains fed.feeds.taken of got.3
         got.1
-        (le_trans got.2 fed.within)
-        (feeds_come (state_of s.body.phase) (length fed.piece) fed.part fed.gets fed.short (reads_on_goes
+        (le_trans got.2 fed.feeds.within)
+        (feeds_come (state_of s.body.phase) (length fed.feeds.piece) fed.feeds.part fed.feeds.gets fed.short (reads_on_goes
         goes)
-        (fed.progress (unfinished told also)))))
+        (fed.feeds.progress (unfinished told also)))))
 
     drains_calm : (piece : List ℕ) → DrainsOrigin v w → v.origin.inbox ≡ piece ++ w.origin.inbox
         → Calm setup false v w

@@ -23,7 +23,7 @@ use Rattle.ts_transform.proofs.Covering.{moved-some}
 use Rattle.ts_transform.proofs.Moving.{stepped-less}
 use Rattle.ts_transform.proofs.PassedErrors.{calls_same, gone_fewer, passed_less, passed_same}
 use Rattle.ts_relay.specs.LoweringBody.{IsOfLines}
-use Rattle.ts_relay.proofs.InsertedStages.{pumped_lines}
+use Rattle.ts_passing.proofs.InsertedStages.{pumped_lines}
 
 -- ---- a stage worked, or the chain is as it was
 
@@ -173,7 +173,7 @@ pub handled_lines : {P : Type 0} (setup : Setup) (rest : P → List ℕ → List
     → PumpsOnce rest c d → IsOfLines setup rest c → IsOfLines setup rest d
 handled_lines {P} setup rest c d (inl same) of = subst (λ (x : ChainState P). IsOfLines setup rest x)
     (sym same) of
-handled_lines setup rest c d (inr (at, p)) of = pumped_lines setup rest at c d p (stepped_len rest p.pumped
+handled_lines setup rest c d (inr (at, p)) of = pumped_lines setup.transforms.items rest at c d p (stepped_len rest p.pumped
     c.first c.stages at d.first d.stages p.steps) of
   where
     stepped_len : {P : Type 0} (rest : P → List ℕ → List ℕ) (r : Pumped) (from : List ℕ) (ss : List (Stage P))

@@ -51,9 +51,10 @@ use Rattle.ts_phases.specs.declared.phase.Request.{Request}
 use Rattle.ts_phases.proofs.OneSide.{read_count, write_count, write_failed}
 use Rattle.ts_phases.proofs.Going.{gone_block}
 use Rattle.ts_phases.proofs.Owns.{all_took}
-use Rattle.ts_phases.proofs.Responding.{final_more, served_as}
+use Rattle.ts_phases.proofs.Responding.{final_more, read_takes_nothing, served_as}
 use Rattle.ts_phases.proofs.Uploading.{took_request}
-use Rattle.ts_relay.proofs.Early.{FinishesEarly, StaysShort, finished_early, sends_taken, stays_short}
+use Rattle.ts_passing.proofs.Early.{finished_early, sends_taken, stays_short}
+use Rattle.ts_passing.specs.Sends.{FinishesEarly, StaysShort}
 
 -- ---- the client's text
 
@@ -178,8 +179,8 @@ module _ (setup : Setup) (refuses : Type 0) where
   reads_side t c q h dialed o s p place read told reads r =
       let gives = reads.pulls.pulls.told told in
       record {
-        served = served_as setup refuses c q dialed o s (read_count t o s p reads r.served.count) gives.taken
-            reads.outbox r.served;
+        served = served_as setup refuses c q dialed o s (read_count t o s p reads r.served.count)
+            (read_takes_nothing t o s p told reads) r.served;
         good = r.good;
         fed = r.fed;
         reads = subst (λ (g : List ℕ). FinalHead g h (r.fed ++ s.inbox)) (sym gives.given)
@@ -451,7 +452,8 @@ module _ (setup : Setup) (refuses : Type 0) where
               is_block = relayed_is r.q r.h (all_of w.client.look) w.dialed w.origin place r.read block reads
                   says;
               ends = refl;
-              took = took_request setup r.q w.origin reads.served.carries reads.served.no_waits;
+              took = took_request setup refuses r.q w.origin reads.served.carries reads.served.no_waits
+                  (inl reads.served.uploaded);
               mode = f.adds.mode ∙ r.sends.mode;
               sent = r.sends.body;
               text = text;
@@ -569,7 +571,8 @@ module _ (setup : Setup) (refuses : Type 0) where
             is_block = relayed_is r.q r.h (all_of v.client.look) v.dialed v.origin place r.read block r.reads
                 says;
             ends = refl;
-            took = took_request setup r.q v.origin r.reads.served.carries r.reads.served.no_waits;
+            took = took_request setup refuses r.q v.origin r.reads.served.carries r.reads.served.no_waits
+                (inl r.reads.served.uploaded);
             mode = r.sends.mode;
             sent = r.sends.body;
             text = r.sends.text;

@@ -1,5 +1,5 @@
 -- A step's facts, said of what the origin's link refuses after it: what it refused before, and nothing else.
-use Rattle.std.proofs.Common.{inl, inr, ℕ, List, Bool, true, false, Option, Result, Ok, Err}
+use Rattle.std.proofs.Common.{◌≡◌, ◌⊎◌, inl, inr, ℕ, List, Bool, true, false, Option, Result, Ok, Err}
 use Rattle.ts_config.specs.declared.setup.Setup.{Setup}
 use Rattle.ts_hooks.specs.declared.txn_end.TxnEnd.{TxnEnd}
 use Rattle.ts_hooks.specs.declared.txn_end.TxnEnd.TheVariants as E
@@ -12,7 +12,8 @@ use Rattle.ts_wire.specs.declared.heads.ResponseHead.{ResponseHead}
 use Rattle.ts_wire.specs.Place.{Place}
 use Rattle.ts_block.specs.Block.{DenySays, DialSays, IsBlock, VerdictSays, asked, no_head, silent}
 use Rattle.ts_phases.specs.View.{LinkSide, View}
-use Rattle.ts_phases.specs.Facts.{AwaitsFinal, OwnCause, OwnReady, OwnSends, Relays, Served, decided, fault}
+use Rattle.ts_phases.specs.Facts.{AwaitsFinal, OwnCause, OwnReady, OwnSends, Relays, Served, TookExactly}
+use Rattle.ts_phases.specs.Facts.{decided, fault}
 use Rattle.ts_phases.specs.Ends.{AnyEnd, EndFact, EndsBy, FaultText, HasBlock, Relayed, SomeText}
 use Rattle.ts_phases.specs.Ends as ends
 use Rattle.ts_relay.specs.Finishing.{IsFinishing, QueuesBlock, QueuesFor, QueuesShort}
@@ -32,6 +33,7 @@ module _ (setup : Setup) (R S : Type 0) (from : S → R) where
   served c q dialed o h = record {
     goes = h.goes;
     accepts = λ s. h.accepts (from s);
+    uploaded = h.uploaded;
     count = h.count;
     carries = h.carries;
     no_waits = h.no_waits;
@@ -116,9 +118,22 @@ module _ (setup : Setup) (R S : Type 0) (to : R → S) (from : S → R) where
 
   -- ---- the facts
 
+  took_exactly : (request : List ℕ) (o : LinkSide) → TookExactly R request o → TookExactly S request o
+  took_exactly request o h = record {
+    text = h.text;
+    nothing = h.nothing;
+    uploaded = λ some. by_refusal (h.uploaded some);
+    no_waits = h.no_waits;
+  }
+    where
+      by_refusal : (o.look.uploaded ≡ true) ⊎ R → (o.look.uploaded ≡ true) ⊎ S
+      by_refusal (inl moved) = inl moved
+      by_refusal (inr refused) = inr (to refused)
+
   cause : (c : List ℕ) (dialed : Bool) (o : LinkSide) (a : OwnAnswer) → OwnCause setup R c dialed o a
       → OwnCause setup S c dialed o a
-  cause c dialed o a (decided request is whole took) = decided request (block dialed _ c _ is) whole took
+  cause c dialed o a (decided request is whole took) =
+      decided request (block dialed _ c _ is) whole (took_exactly request o took)
   cause c dialed o a (fault q goes status to_head end failed lacks) = fault q goes status to_head end failed
       lacks
 
@@ -182,7 +197,7 @@ module _ (setup : Setup) (R S : Type 0) (to : R → S) (from : S → R) where
   has_block v end b h = record {
     is_block = block v.dialed _ _ b h.is_block;
     ends = h.ends;
-    took = h.took;
+    took = took_exactly b.request v.origin h.took;
     no_waits = h.no_waits;
     mode = h.mode;
   }
@@ -226,7 +241,7 @@ module _ (setup : Setup) (R S : Type 0) (to : R → S) (from : S → R) where
     block = h.block;
     is_block = block v.dialed _ _ h.block h.is_block;
     ends = h.ends;
-    took = h.took;
+    took = took_exactly h.block.request v.origin h.took;
     mode = h.mode;
     sent = h.sent;
     text = h.text;

@@ -20,22 +20,6 @@ use Rattle.ts_relay.proofs.BodyLinks.{reader_read, writer_wrote}
 use Rattle.ts_relay.proofs.Chaining.{chain_still}
 
 module _ {C O : Type 0} (client : link.Ghosts C) (origin : link.Ghosts O) (both : upstream.Ghosts O C) where
-  -- nothing was done to the transaction
-  pub keeps_same : (t : Core C O) → StepKeeps client origin both t t
-  keeps_same t = record {
-    number = refl;
-    setup = refl;
-    plugins_at = refl;
-    hooks = refl;
-    client = record { source = refl; name = refl; plan = refl };
-    origin = record { source = refl; name = refl; plan = refl };
-    client_base = refl;
-    origin_base = refl;
-    dialed = refl;
-    pair = λ h. h;
-    refusal = record { still = λ list h. h; before = λ list h. h };
-  }
-
   module _ {P : Type 0} (old new : Core C O) (step : BodyStep) (r : Relay P) (a : Context) where
     -- the writer did nothing to the body
     pub writer_still : a.log.state.held ≡ true → StepKeeps client origin both old new

@@ -22,9 +22,11 @@ use Rattle.ts_phases.specs.RelayMoves.{ReadsOrigin}
 use Rattle.ts_phases.specs.Facts as facts
 use Rattle.ts_phases.specs.Ends.{EndFact}
 use Rattle.ts_phases.specs.Ends as ends
-use Rattle.ts_relay.specs.Feeding.{DrainsOrigin, EndsHere, FeedsBody, FeedsTo, GetsPart, OnGoes, short_if}
+use Rattle.ts_relay.specs.Feeding.{DrainsOrigin, FeedsBody, FeedsTo, OnGoes, short_if}
+use Rattle.ts_passing.specs.Feeding.{EndsHere, GetsPart}
 use Rattle.ts_relay.specs.Finishing.{IsFinishing, LeadsBody}
-use Rattle.ts_relay.specs.Relaying.{GivesEnd, IsShort, ReadsBody, RelaysBody, Sends}
+use Rattle.ts_relay.specs.Relaying.{GivesEnd, IsShort, ReadsBody, RelaysBody}
+use Rattle.ts_passing.specs.Sends.{Sends}
 use Rattle.ts_relay.specs.declared.last_writes.BodyStep.{BodyStep}
 use Rattle.ts_relay.specs.declared.last_writes.BodyStep.TheVariants as S
 use Rattle.ts_relay.specs.declared.relay.Relay.{Relay}
@@ -32,8 +34,8 @@ use Rattle.ts_relay.specs.declared.relay.Short.{Short}
 use Rattle.ts_relay.specs.declared.relay.Short.TheVariants as K
 use Rattle.ts_phases.specs.declared.phase.Request.{Request}
 use Rattle.ts_phases.proofs.OneSide.{read_failed}
-use Rattle.ts_phases.proofs.Responding.{served_as}
-use Rattle.ts_relay.proofs.Early.{sends_closed, sends_given}
+use Rattle.ts_phases.proofs.Responding.{served_as, used_takes_nothing}
+use Rattle.ts_passing.proofs.Early.{sends_closed, sends_given}
 use Rattle.ts_relay.proofs.Relaying.{reads_on, relays_lacks, relays_relayed}
 
 -- what was sent, once the chain got a part of the body
@@ -61,7 +63,8 @@ module _ (setup : Setup) (refuses : Type 0) where
       read
       → ReadsBody setup refuses q h c dialed (record o { inbox = i }) next (read ++ part)
   drained q h c dialed o i piece part place next read taken goes r = record {
-    served = served_as setup refuses c q dialed o (record o { inbox = i }) r.served.count refl refl r.served;
+    served = served_as setup refuses c q dialed o (record o { inbox = i }) r.served.count
+        (used_takes_nothing o i) r.served;
     good = r.good;
     fed = r.fed ++ piece;
     reads = subst (λ (x : List ℕ). FinalHead o.look.given h x) (ap (λ (x : List ℕ). r.fed ++ x) taken
@@ -101,20 +104,20 @@ module _ (setup : Setup) (refuses : Type 0) where
         (record {
           q = h.q;
           h = h.h;
-          read = h.read ++ fed.part;
-          reads = drained h.q h.h (all_of v.client.look) v.dialed v.origin w.origin.inbox fed.piece fed.part
-              r.body s.body h.read fed.taken fed.goes h.reads;
+          read = h.read ++ fed.feeds.part;
+          reads = drained h.q h.h (all_of v.client.look) v.dialed v.origin w.origin.inbox fed.feeds.piece fed.feeds.part
+              r.body s.body h.read fed.feeds.taken fed.feeds.goes h.reads;
           gives_end = gets_end h.q h.h (record v.origin { inbox = w.origin.inbox }) s.body
-              (state_of s.body.phase) fed.part r.driven.chain s.driven.chain r.short refl going comes
-              fed.gets;
+              (state_of s.body.phase) fed.feeds.part r.driven.chain s.driven.chain r.short refl going comes
+              fed.feeds.gets;
           sends = record {
             count = h.sends.count;
             some = h.sends.some;
             mode = h.sends.mode;
             body = h.sends.body;
             text = h.sends.text;
-            sends = gets_sends stage (body_lines setup h.q.head h.h) h.read h.sends.body fed.part
-                (state_of s.body.phase) r.driven.chain s.driven.chain going fed.gets h.sends.sends;
+            sends = gets_sends stage (body_lines setup h.q.head h.h) h.read h.sends.body fed.feeds.part
+                (state_of s.body.phase) r.driven.chain s.driven.chain going fed.feeds.gets h.sends.sends;
           };
         }))
 

@@ -3,8 +3,6 @@
 use Rattle.std.specs.Prelude.{◌≡◌, ℕ, ◌+◌, ◌≤◌, ◌⊎◌, List, [], true, false, Option, None, ⊤}
 use Rattle.std.specs.Arc.{arc_value}
 use Rattle.ts_config.specs.declared.setup.Setup.{Setup}
-use Rattle.ts_config.specs.declared.setup.TransformLine.{TransformLine}
-use Rattle.ts_config.specs.Bodies.{so_far_of, whole_of}
 use Rattle.ts_hooks.specs.declared.txn_end.TxnEnd.TheVariants as E
 use Rattle.ts_journal.specs.declared.entry.TheConstants.{GREATEST}
 use Rattle.ts_group.specs.Context.{Context}
@@ -29,19 +27,14 @@ use Rattle.ts_phases.specs.View.{OriginRefuses, View, view_of}
 use Rattle.ts_phases.specs.Holding.{IfTold}
 use Rattle.ts_phases.specs.Ends.{EndFact}
 use Rattle.ts_relay.specs.Duties.{relay_seats}
-use Rattle.ts_relay.specs.Relaying.{ReadsBody, SendsBody, Sends, set_by_stage}
+use Rattle.ts_relay.specs.Relaying.{ReadsBody, SendsBody, set_by_stage}
+use Rattle.ts_passing.specs.Sends.{Sends}
 use Rattle.ts_relay.specs.declared.last_writes.BodyStep.{BodyStep}
 use Rattle.ts_relay.specs.declared.last_writes.BodyStep.TheVariants as S
 use Rattle.ts_phases.specs.declared.parts.Core.{Core}
 use Rattle.ts_phases.specs.declared.phase.Request.{Request}
 use Rattle.ts_relay.specs.declared.relay.Relay.{Relay}
 use Rattle.ts_relay.specs.declared.relay.TheConstants.{FIRST, READER}
-
--- the transform of a line makes of a whole body what the line does, and writes of a body so far what the line
--- does, until the line finishes early
-abbrev pub ActsAsLines : {P : Type 0} → transform.Ghosts P TransformLine → Type 0
-ActsAsLines stage = (l : TransformLine) (z : List ℕ)
-    → (stage.whole l z ≡ whole_of l z) × (stage.line_soon l z ≡ so_far_of l z)
 
 -- no continuation was made, nothing was given to the chain, and no stage has ended
 pub record IsUnbegun {P : Type 0} (r : Relay P) : Type 0 where

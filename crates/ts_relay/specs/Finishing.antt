@@ -24,7 +24,7 @@ module _ (setup : Setup) (refuses : Type 0) where
     pub block : Block
     pub is_block : IsBlock setup v.dialed refuses (all_of v.origin.look) (all_of v.client.look) block
     pub ends : block.end ≡ end
-    pub took : TookExactly block.request v.origin
+    pub took : TookExactly refuses block.request v.origin
     pub mode : v.sent.mode ≡ block.mode
     pub sent : List ℕ
     pub text : HasText v.client v.sent block.head sent fin

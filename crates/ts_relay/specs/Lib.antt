@@ -3,7 +3,6 @@ pub mod Duties
 pub mod Entering
 pub mod Feeding
 pub mod Finishing
-pub mod Inserted
 pub mod LoweringBody
 pub mod Relaying
 pub mod StepsOwed

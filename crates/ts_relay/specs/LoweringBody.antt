@@ -14,7 +14,7 @@ use Rattle.ts_transform.specs.declared.driven.DrivenChain.{DrivenChain}
 use Rattle.ts_relay.specs.BodyLinks.{HoldsLittle}
 use Rattle.ts_relay.specs.Duties.{set_leaving, IsBodyCovered, WhileGoes}
 use Rattle.ts_phases.specs.Holding.{IfTold}
-use Rattle.ts_relay.specs.Inserted.{AllChangeNoMore}
+use Rattle.ts_passing.specs.Lines.{IsOfSome}
 use Rattle.ts_phases.specs.Lowering.{agains_left, chain_room, end_room, enter_left, if_told, number_left}
 use Rattle.ts_phases.specs.Lowering.{pump_weight, to_hear}
 use Rattle.ts_phases.specs.View.{View}
@@ -22,12 +22,9 @@ use Rattle.ts_relay.specs.declared.last_writes.BodyStep.{BodyStep}
 use Rattle.ts_relay.specs.declared.last_writes.BodyStep.TheVariants as S
 use Rattle.ts_relay.specs.declared.relay.Relay.{Relay}
 
--- A chain of the configuration's: it has no more stages than that has transform lines, and each of them
--- changes no more of what it writes than is changed of what it gets.
-pub record IsOfLines {P : Type 0} (setup : Setup) (rest : P → List ℕ → List ℕ)
-    (c : ChainState P) : Type 0 where
-  pub few : length c.stages ≤ length setup.transforms.items
-  pub changes : AllChangeNoMore rest c.stages
+-- a chain of the configuration's
+abbrev pub IsOfLines : {P : Type 0} → Setup → (P → List ℕ → List ℕ) → ChainState P → Type 0
+IsOfLines setup rest c = IsOfSome setup.transforms.items rest c
 
 -- no more of the body comes to its chain: the end was given, or the body is cut or bad
 abbrev pub has_come : {P : Type 0} → Relay P → Bool

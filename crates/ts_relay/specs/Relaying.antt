@@ -4,7 +4,6 @@
 use Rattle.std.specs.Prelude.{◌≡◌, ◌≢◌, ℕ, ◌+◌, ◌≤◌, ◌⊎◌, ◌++◌, List, [], Bool, true, false, Option, Some}
 use Rattle.std.specs.Prelude.{None, Result, Ok, Err, ⊤}
 use Rattle.std.specs.Arc.{arc_value}
-use Rattle.std.specs.Bool.{OnTrue}
 use Rattle.ts_journal.specs.declared.entry.Pending.{Pending}
 use Rattle.ts_journal.specs.declared.entry.TheConstants.{GREATEST}
 use Rattle.ts_group.specs.declared.action.SetFault.{SetFault}
@@ -13,21 +12,19 @@ use Rattle.ts_group.specs.declared.action.Named.{Named}
 use Rattle.ts_group.specs.Context.{Context, role_at}
 use Rattle.ts_group.specs.Entries.{Grows}
 use Rattle.ts_config.specs.declared.setup.Setup.{Setup}
-use Rattle.ts_config.specs.declared.setup.TransformLine.{TransformLine}
-use Rattle.ts_config.specs.Bodies.{compose_lines, so_far}
 use Rattle.ts_hooks.specs.declared.txn_end.TxnEnd.{TxnEnd}
 use Rattle.ts_hooks.specs.declared.txn_end.TxnEnd.TheVariants as E
 use Rattle.ts_link.specs.Link.{all_of}
 use Rattle.ts_link.specs.declared.link.Link as link
 use Rattle.ts_upstream.specs.declared.upstream.Upstream as upstream
-use Rattle.ts_transform.specs.Flow.{AreSettled, ChainState, EndsInOrder, flow, soon_flow}
-use Rattle.ts_transform.specs.Law.{behind}
+use Rattle.ts_transform.specs.Flow.{ChainState, EndsInOrder}
 use Rattle.ts_transform.specs.Driving.{AreNamed, Keeps, SetsFew, SetsOnly}
 use Rattle.ts_transform.specs.Driven.{SameSeats, StaysDriven}
 use Rattle.ts_transform.specs.declared.continuation.StageContinuation.{StageContinuation}
 use Rattle.ts_transform.specs.declared.driven.DrivenChain.{DrivenChain}
 use Rattle.ts_transform.specs.declared.loss.Loss.TheVariants as loss
 use Rattle.ts_transform.specs.declared.transform.Transform as transform
+use Rattle.ts_passing.specs.Sends.{Sends}
 use Rattle.ts_wire.specs.declared.heads.ResponseHead.{ResponseHead}
 use Rattle.ts_wire.specs.declared.body.BodyState.TheVariants as B
 use Rattle.ts_wire.specs.declared.framing.Framing.{Framing}
@@ -49,15 +46,6 @@ use Rattle.ts_relay.specs.declared.relay.Short.{Short}
 use Rattle.ts_relay.specs.declared.relay.Short.TheVariants as K
 use Rattle.ts_phases.specs.declared.parts.Sent.{Sent}
 use Rattle.ts_phases.specs.declared.phase.Request.{Request}
-
--- What was sent, followed by what the chain still gives, is the lines' work on what was read: followed by
--- whatever still comes before the chain's end was given, and by nothing from then on. Before that it is also
--- what the lines have written so far, unless one of them has finished early.
-pub record Sends {P : Type 0} (rest : P → List ℕ → List ℕ) (soon : P → List ℕ → Option (List ℕ))
-    (lines : List TransformLine) (read body : List ℕ) (c : ChainState P) : Type 0 where
-  pub flows : (z : List ℕ) → OnTrue c.given (z ≡ []) → body ++ flow rest c z ≡ compose_lines lines (read ++ z)
-  pub so : c.given ≡ false → (z : List ℕ) → so_far lines (read ++ z) ≡ behind body (soon_flow soon c z)
-  pub settled : AreSettled soon c.stages
 
 -- A body that has not ended goes on; or no more of it comes, since its origin has ended, or since it is bad.
 abbrev pub IsShort : Framing → LinkSide → Place → Option Short → Type 0

@@ -1,7 +1,8 @@
 //! How a body comes to the chain: the reader of bodies is fed with what waits of the origin's bytes.
 ghost use Rattle.std.specs.Prelude.{◌≡◌, ◌≢◌, [], true, false};
 ghost use Rattle.ts_phases.specs.View.{GoesIf, is_dialed, side_if, view_of};
-ghost use Rattle.ts_relay.specs.Feeding.{DrainsOrigin, EndsHere, FeedsTo, GetsPart, OnGoes, short_if};
+ghost use Rattle.ts_relay.specs.Feeding.{DrainsOrigin, FeedsTo, OnGoes, short_if};
+ghost use Rattle.ts_passing.specs.Feeding.{EndsHere, GetsPart};
 ghost use Rattle.ts_relay.specs.Relaying.{IsNotSpent, StepsChain, set_by_part, set_by_stage};
 ghost use Rattle.ts_phases.specs.Holding.{StepKeeps};
 ghost use Rattle.ts_wire.specs.declared.body.BodyState.TheVariants.{Ended, Unfinished};
@@ -9,9 +10,8 @@ ghost use Rattle.ts_wire.specs.declared.body.BodyState.TheVariants.{Ended, Unfin
 use crate::last_writes::BodyStep;
 use crate::relay::{Relay, Short, step_after};
 use ts_group::Cx;
-use ts_iobuf::Waiting;
 use ts_link::Link;
-use ts_phases::{Core, Peer};
+use ts_phases::{Core, Peer, Received};
 use ts_transform::{DrivenChain, Transform};
 use ts_upstream::Upstream;
 use ts_wire::{BodyEnd, BodyReader, BodyState};
@@ -90,7 +90,7 @@ fn short_if(state: BodyState, short: Option<Short>) -> Option<Short>
 // Feeds the first block of what waits to the reader of bodies, and gives the chain the part of it that is
 // body. Behind a bad one no more of it comes.
 fn feed_some<P: Transform + Drop>(
-    inbox: &mut Waiting,
+    inbox: &mut Received,
     relay: &mut Relay<P>,
     cx: &mut Cx,
 ) -> BodyStep

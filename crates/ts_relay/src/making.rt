@@ -4,8 +4,9 @@ ghost use Rattle.ts_wire.specs.Place.{IsFed};
 ghost use Rattle.ts_block.specs.Acting.{acting};
 ghost use Rattle.ts_block.specs.Relayed.{if_body};
 ghost use Rattle.ts_block.specs.Block.{body_lines, lines_for};
-ghost use Rattle.ts_relay.specs.Entering.{ActsAsLines, IsFreshRelay};
-ghost use Rattle.ts_relay.specs.Inserted.{AreOfLines, IsOfParts};
+ghost use Rattle.ts_relay.specs.Entering.{IsFreshRelay};
+ghost use Rattle.ts_passing.specs.Lines.{ActsAsLines};
+ghost use Rattle.ts_passing.specs.Inserted.{AreOfLines, IsOfParts};
 
 use crate::relay::Relay;
 use std::alloc::Global;

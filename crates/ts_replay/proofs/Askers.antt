@@ -24,7 +24,8 @@ use Rattle.ts_record.specs.Grammar.{TxnPieces}
 use Rattle.ts_record.specs.declared.recording.TheConstants.{MOST_TXNS}
 use Rattle.ts_replay.specs.Members.{HookPlugin, members, numbered}
 use Rattle.ts_replay.specs.Recorded.{FitsIn, HasPlainLines, IsNewTagOf, IsOfRowTag, IsOfTag, Recorded}
-use Rattle.ts_replay.specs.Recorded.{RecordedTag, RowGroup, RowTag, RowWorld, is_asked_only}
+use Rattle.ts_replay.specs.Recorded.{RecordedTag, RowGroup, RowTag, RowWorld}
+use Rattle.ts_exchange.specs.Rows.{is_asked_only}
 use Rattle.ts_replay.specs.Rows.{AreGroupsOf}
 use Rattle.ts_txn.specs.declared.making.TheConstants.{MOST_GROUPS}
 use Rattle.ts_thread.specs.Started.{CanStart}
@@ -151,8 +152,8 @@ module _ (setup : Setup) (at : ℕ) where
       let same : u ≡ t = cc in
       record {
         below = omega arith;
-        setup_is = ap (λ (v : RecordedTag). v.setup.value) (sym same) ∙ are.0.setup_is;
-        plugins_at = ap (λ (v : RecordedTag). v.plugins_at) (sym same) ∙ are.0.plugins_at;
+        setup_is = ap (λ (v : RecordedTag). v.setup.value) (sym same) ∙ are.0.between.setup_is;
+        plugins_at = ap (λ (v : RecordedTag). v.plugins_at) (sym same) ∙ are.0.between.plugins_are;
       }
   txn_tag from lines (txn ∷ txns) (kind.One u ∷ tags) are (suc k) t there =
       let on = txn_tag (from + 1) lines txns tags are.1 k t there in

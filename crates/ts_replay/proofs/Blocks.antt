@@ -11,8 +11,8 @@ use Rattle.ts_wire.specs.Check.{check}
 use Rattle.ts_wire.specs.OneHead.{IsReadRequest}
 use Rattle.ts_wire.specs.declared.heads.RequestHead.{RequestHead}
 use Rattle.ts_block.proofs.SentOnce.{request_stays_one, was_read}
-use Rattle.ts_replay.specs.Exchanged.{EndsBlank}
-use Rattle.ts_replay.proofs.Blank.{sent_ends}
+use Rattle.ts_wire.specs.Blank.{EndsBlank}
+use Rattle.ts_wire.proofs.SentBlank.{request_ends as ends_blank}
 
 -- there is no request, or it ends with its only empty line
 abbrev pub EndsBlankIf : List ℕ → Type 0
@@ -37,7 +37,7 @@ module _ (setup : Setup) (plain : HasPlainRules setup) where
   pub request_ends : (q : RequestHead) (target host : List ℕ) → IsReadRequest q → check q ≡ Ok (target, host)
       → EndsBlank (request_text setup q target host)
   request_ends q target host read passes =
-      sent_ends q.method target host (request_text setup q target host)
+      ends_blank q.method target host (request_text setup q target host)
       (request_stays_one setup plain q target host read passes)
 
   -- ---- case by case

@@ -16,16 +16,16 @@ use Rattle.ts_group.specs.declared.slot.TheConstants.{MOST_IN_TURN}
 use Rattle.ts_journal.specs.declared.entry.TheConstants.{GREATEST}
 use Rattle.ts_journal.specs.Later.{Follows}
 use Rattle.ts_journal.specs.State.{State}
-use Rattle.ts_link.specs.MemLink.{LinkState, look_of}
 use Rattle.ts_lists.proofs.Pairs.{zip_at_place}
 use Rattle.ts_plugin.specs.declared.plugin.PluginTag.{PluginTag}
 use Rattle.ts_record.specs.Grammar.{TxnPieces}
 use Rattle.ts_record.specs.Links.{recorded_side}
-use Rattle.ts_replay.specs.Exchanged.{IsRunBetween, leave_of, leave_told}
+use Rattle.ts_replay.specs.Exchanged.{IsRunBetween}
 use Rattle.ts_replay.specs.Members.{HookPlugin, Member, members, numbered}
 use Rattle.ts_replay.specs.Recorded.{FitInRow, FitsIn, HasPlainLines, HasRowBegun, IsNewTagOf, IsOfRowTag}
-use Rattle.ts_replay.specs.Recorded.{IsOfTag, IsSoundRow, IsSoundWith, IsTagOf, Recorded, RecordedTag}
-use Rattle.ts_replay.specs.Recorded.{RowGroup, RowTag, RowWorld, is_asked_only, is_first}
+use Rattle.ts_replay.specs.Recorded.{IsOfTag, IsSoundRow, IsTagOf, Recorded, RecordedTag, RowGroup, RowTag}
+use Rattle.ts_replay.specs.Recorded.{RowWorld, recorded_ends, recorded_promise}
+use Rattle.ts_exchange.specs.Rows.{is_asked_only, is_first}
 use Rattle.ts_replay.specs.Replayed.{AreDone, HasRestedAs, HasRunAs, IsDoneAs}
 use Rattle.ts_replay.specs.Reports.{sides_of}
 use Rattle.ts_replay.specs.Rows.{AreGroupsOf}
@@ -35,9 +35,7 @@ use Rattle.ts_thread.specs.Started.{IsFirst, WasStarted}
 use Rattle.ts_thread.specs.Threads.{HasHadTurns, turns_of}
 use Rattle.ts_thread.specs.Whole.{HaveEnded}
 use Rattle.ts_thread.proofs.Known.{end_fits, found_fits}
-use Rattle.ts_phases.specs.View.{is_dialed, side_if}
-use Rattle.ts_txn.specs.World.{IsSameLinkIf}
-use Rattle.ts_phases.specs.declared.parts.Peer.{Peer}
+use Rattle.ts_upstream.specs.InMemory.{memory_link}
 use Rattle.ts_txn.proofs.Fitting.{fits_begun}
 
 -- ---- it was started
@@ -50,7 +48,7 @@ later_turns a b s t none (inr (same, later)) = later.turns
 -- a transaction that began fits the tag that says that it was started
 begun_fits : (tag : RecordedTag) (old new : RowWorld) → IsOfRowTag (kind.One tag) old → HasRowBegun old new
     → IsOfRowTag (kind.One (record tag { started = true })) new
-begun_fits tag (One t) (One u) fits begun = fits_begun look_of look_of tag t u begun fits
+begun_fits tag (One t) (One u) fits begun = fits_begun memory_link memory_link tag t u begun fits
 begun_fits tag (One t) (Other p) fits begun = absurd begun
 begun_fits tag (Other p) new fits begun = absurd fits
 
@@ -130,19 +128,21 @@ module _ (setup : Setup) (at most : ℕ) (lines : HasPlainLines setup)
         is_txn = w.is_txn;
         tag = record tag { started = true };
         tag_is = record {
-          number_is = is.number_is;
-          setup_is = is.setup_is;
-          plugins_at = is.plugins_at;
-          client = is.client;
-          origin = is.origin;
+          between = record {
+            number_is = is.between.number_is;
+            setup_is = is.between.setup_is;
+            plugins_are = is.between.plugins_are;
+            client_is = is.between.client_is;
+            origin_is = is.between.origin_is;
+            sure_is = is.between.sure_is;
+            first_is = is.between.first_is;
+            started_is = refl;
+          };
           takes_some = is.takes_some;
-          sure = is.sure;
-          first = is.first;
-          started_is = refl;
         };
         fits = w.fits;
         sound = subst (λ v. IsSoundRow v g.cx.log.state g.cx.roles) w.is_txn fits.1;
-        began = OnTrue_at is.first fits.3;
+        began = OnTrue_at is.between.first_is fits.3;
         turned = goes.turned;
         idle = idle;
         given = fits.2.0;
@@ -176,7 +176,7 @@ module _ (setup : Setup) (at most : ℕ) (lines : HasPlainLines setup)
   each_done from starts ls (txn ∷ txns) (kind.One tag ∷ tags) [] all are fit idle few goes = absurd fit
   each_done from starts ls (txn ∷ txns) (kind.One tag ∷ tags) (g ∷ gs) all are fit idle few goes = (
     has_run from txn tag g are.0 fit.0 (All-head IsIdle g gs idle) (All-head (HasHadTurns most) g gs few)
-        (goes 0 tag g (omega (arith, all)) refl refl are.0.first fit.0),
+        (goes 0 tag g (omega (arith, all)) refl refl are.0.between.first_is fit.0),
     each_done (from + 1) (length txns) ls txns tags gs refl are.1 fit.1 (All-tail IsIdle g gs idle)
         (All-tail (HasHadTurns most) g gs few)
         (λ k t h below. goes (suc k) t h (omega (arith, all, below))),
@@ -209,18 +209,6 @@ none_done setup at (m ∷ ms) (tag ∷ tags) groups row none =
 
 -- ---- what a transaction's block is made of
 
--- an origin's side is dialed, and gives what the link gives that it was made of, and leaves as that does
-record IsMadeSide (x : Option (Peer LinkState)) (made : LinkState) : Type 0 where
-  dialed : is_dialed x ≡ true
-  source : (side_if look_of x).look.source ≡ (look_of made).source
-  leaves : leave_of (side_if look_of x).look ≡ leave_of (look_of made)
-
-made_side : (x : Option (Peer LinkState)) (made : LinkState) → IsSameLinkIf look_of (Some made) x
-    → IsMadeSide x made
-made_side None made same = absurd same
-made_side (Some p) made same =
-    record { dialed = refl; source = same.source; leaves = ap leave_told same.plan }
-
 -- a recorded side that took nothing yet leaves after as many bytes as the recording says
 side_leaves : (leave : Option ℕ) → option_map (λ m. 0 + m) leave ≡ leave
 side_leaves None = refl
@@ -229,23 +217,28 @@ side_leaves (Some most) = let all : 0 + most ≡ most = omega arith in ap Some a
 -- a transaction that has run did so between its two sides
 pub run_between : (setup : Setup) (at number : ℕ) (txn : TxnPieces) (g : RowGroup)
     → (ran : HasRunAs setup at number txn g) → IsRunBetween setup (sides_of txn) ran.txn
-run_between setup at number txn g ran =
-    let t = ran.txn in
-    let of_origin = made_side t.core.origin (recorded_side txn.origin None)
-    (subst (λ o. IsSameLinkIf look_of o t.core.origin) ran.tag_is.origin ran.fits.origin) in
-    record {
-      setup_is = ran.fits.setup ∙ ran.tag_is.setup_is;
-      plain = ran.lines.plain;
-      gives = ran.fits.client.source ∙ ap (λ (l : LinkState). (look_of l).source) ran.tag_is.client;
-      leaves = ap leave_told ran.fits.client.plan
-          ∙ ap (λ (l : LinkState). leave_of (look_of l)) ran.tag_is.client ∙ side_leaves txn.leave;
-      takes_some = ran.tag_is.takes_some;
-      dialed = of_origin.dialed;
-      answers = of_origin.source;
-      stays = of_origin.leaves;
-      started = ran.fits.started ran.tag_is.started_is;
-      next = g.cx.log.state.next;
-      left = ran.numbers;
-      roles = g.cx.roles;
-      sound = subst (λ ps. IsSoundWith t ps g.cx.log.state.next g.cx.roles) ran.idle ran.sound;
-    }
+run_between setup at number txn g ran = record {
+  ends = recorded_ends setup at number txn;
+  ends_are = record {
+    setup_is = refl;
+    plain = ran.lines.plain;
+    gives = refl;
+    leaves = side_leaves txn.leave;
+    takes_some = ran.tag_is.takes_some;
+    origin = recorded_side txn.origin None;
+    dialed = refl;
+    answers = refl;
+    stays = refl;
+  };
+  state = g.cx.log.state;
+  idle = ran.idle;
+  numbers = ran.numbers;
+  between = record {
+    promise = recorded_promise;
+    tag = ran.tag;
+    tag_is = ran.tag_is.between;
+    fits = ran.fits;
+    roles = g.cx.roles;
+    sound = ran.sound;
+  };
+}

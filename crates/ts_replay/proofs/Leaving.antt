@@ -25,7 +25,8 @@ use Rattle.ts_phases.proofs.Responding.{final_more}
 use Rattle.ts_record.specs.Links.{GoesAsRecorded}
 use Rattle.ts_record.specs.Report.{IsReported}
 use Rattle.ts_record.specs.declared.report.ReportBlock.{ReportBlock}
-use Rattle.ts_replay.specs.Exchanged.{EndsBlank, LeavesHeads, MayEnd, ShowsEnd, blank_end}
+use Rattle.ts_replay.specs.Exchanged.{LeavesHeads, MayEnd, ShowsEnd}
+use Rattle.ts_wire.specs.Blank.{EndsBlank, blank_end}
 use Rattle.ts_replay.specs.Heads.{SendsHeads}
 use Rattle.ts_replay.specs.Heads as heads
 use Rattle.ts_replay.specs.Recorded.{TakesSome}
@@ -106,7 +107,7 @@ module _ (setup : Setup) (sides : BothSides) (parts : TxnParts LinkState LinkSta
   -- those of its block, where that is known
   of_block : (end : TxnEnd) → s.end ≡ end → IsReported end → (b : Block) (more : List ℕ)
       → IsBlock setup true (false ≡ true) (all_of (look_of s.origin.link)) (all_of s.client.look) b
-      → TookExactly b.request (side look_of s.origin)
+      → TookExactly (false ≡ true) b.request (side look_of s.origin)
       → s.client.look.taken ++ s.client.outbox ≡ b.head ++ more → s.sent.head ≡ length b.head
       → (s.client.outbox ≡ []) ⊎ HasFailed s.client → HasHeadsAt setup sides parts link most
   of_block end is reported b more says took text long waits = record {
@@ -155,11 +156,11 @@ module _ (setup : Setup) (sides : BothSides) (parts : TxnParts LinkState LinkSta
       let ends = request_ends setup s.plain q.head q.target q.host
       (was_read (all_of s.client.look) q.head knows.rest knows.reads) knows.passes in
       let carries = r.served.carries in
-      let took : TookExactly text (side look_of s.origin) = record {
-        upload = carries.upload;
+      let took : TookExactly (false ≡ true) text (side look_of s.origin) = record {
         text = sym (append-nil s.origin.link.taken) ∙ ap (λ w. s.origin.link.taken ++ w)
             (sym r.served.no_waits) ∙ carries.text;
         nothing = λ none. absurd (ends_some text ends none);
+        uploaded = λ some. inl refl;
         no_waits = r.served.no_waits;
       } in
       record {
@@ -274,10 +275,10 @@ module _ {X : Type 0} (setup : Setup) (sides : BothSides) (most : ℕ) (leaves :
 pub left_same : (text head content : List ℕ) (most : ℕ) (request whole : List ℕ) → text ≡ request
     → head ≡ take most whole → content ≡ []
     → ◌≡◌ {A = ReportBlock}
-    (record { request = text; end = E.ClientFault; head = head; content = content })
+    (record { request = text; upload = None; end = E.ClientFault; head = head; content = content; tap = None })
     (left_report most request whole)
 left_same text head content most request whole p q r = λ i. record
-    { request = p i; end = E.ClientFault; head = q i; content = r i }
+    { request = p i; upload = None; end = E.ClientFault; head = q i; content = r i; tap = None }
 
 -- as much of a head as there is
 pub front_within : (taken written : List ℕ) (head shown : ℕ) → written ≡ taken

@@ -1,37 +1,30 @@
 -- Rows of groups of recorded transactions and hook plugins grow.
-use Rattle.std.proofs.Common.{◌≡◌, ℕ, ◌+◌, ◌≤◌, List, [], ◌∷◌, ◌++◌, length, length-append, map}
-use Rattle.std.proofs.Common.{append_assoc, false, true, Option, None, Some, refl, sym, ap, subst, ◌∙◌, arith}
-use Rattle.std.specs.Arc.{arc_value}
-use Rattle.std.proofs.lemmas.Bool.{OnTrue_from}
-use Rattle.std.proofs.lemmas.List.{append-nil, map-append}
+use Rattle.std.proofs.Common.{◌≡◌, ℕ, ◌+◌, ◌≤◌, List, [], ◌∷◌, ◌++◌, length, length-append, map, false, true}
+use Rattle.std.proofs.Common.{append_assoc, append-nil, Option, None, Some, refl, sym, ap, subst, ◌∙◌, arith}
+use Rattle.std.specs.Prelude.{Err, IfOk, Ok, Result}
+use Rattle.std.specs.List.{AllZip}
 use Rattle.std.proofs.lemmas.Slice.Zip.{all_zipped_more}
-use Rattle.std.proofs.lemmas.List.Elements.{All-push}
+use Rattle.std.proofs.lemmas.List.Elements.{All-append, All-push}
 use Rattle.std.proofs.lemmas.Option.{same_Some}
 use Rattle.ts_config.specs.declared.fields.PluginLine.{PluginLine}
 use Rattle.ts_config.specs.declared.setup.Setup.{Setup}
-use Rattle.ts_group.specs.declared.action.Named.{Named}
-use Rattle.ts_group.specs.declared.either.Either.TheVariants.{One, Other}
+use Rattle.ts_exchange.specs.Ends.{AreNewEnds, AreSureEnds, IsTagBetween}
+use Rattle.ts_exchange.specs.Rows.{IsTagOfLine, StandBehind}
 use Rattle.ts_group.specs.declared.either.EitherTag.TheVariants as kind
-use Rattle.ts_group.specs.Context.{IsFresh}
-use Rattle.ts_group.specs.Slot.{IsAtRest}
-use Rattle.ts_journal.specs.State.{State}
 use Rattle.ts_link.specs.Link.{IsSure}
 use Rattle.ts_link.specs.MemLink.{LinkState, look_of}
 use Rattle.ts_link.specs.declared.piece.Piece.{Piece}
-use Rattle.ts_plugin.specs.World.{OnlyAnswers}
-use Rattle.ts_plugin.specs.declared.plugin.Plugin.{Plugin}
-use Rattle.ts_plugin.specs.declared.plugin.PluginTag.{PluginTag}
 use Rattle.ts_record.specs.Grammar.{TxnPieces}
-use Rattle.ts_record.specs.Links.{recorded_side}
+use Rattle.ts_record.specs.Links.{IsNewSide, recorded_side}
 use Rattle.ts_record.specs.declared.recording.TheConstants.{MOST_TXNS}
 use Rattle.ts_replay.specs.Members.{HookPlugin, Member, Transaction, numbered}
-use Rattle.ts_replay.specs.Recorded.{AllTakeSome, TakesSome}
-use Rattle.ts_replay.specs.Recorded.{FitsIn, HasPlainLines, IsNewTagOf, IsOfRowTag, IsOfTag, IsSoundRow}
-use Rattle.ts_replay.specs.Recorded.{IsSoundWith, IsTagOf, Recorded, RecordedTag, RowGroup, RowTag}
-use Rattle.ts_replay.specs.Rows.{AreGroupsOf}
+use Rattle.ts_replay.specs.Recorded.{AllTakeSome, FitsIn, HasPlainLines, IsNewTagOf, RecordedTag, RowGroup}
+use Rattle.ts_replay.specs.Recorded.{RowTag, TakesSome, recorded_ends, recorded_origin, recorded_promise}
+use Rattle.ts_replay.specs.Rows.{AreGroupsOf, IsRowOf, IsTxnRowOf}
+use Rattle.ts_stock.specs.StockTransform.{stock_transform}
 use Rattle.ts_thread.specs.Threads.{HasHadTurns}
-use Rattle.ts_txn.specs.Making.{IsMadeOf, IsMadeOfIf, IsTxnSetup}
-use Rattle.ts_txn.proofs.Fitting.{fits_made}
+use Rattle.ts_txn.specs.Making.{IsTxnSetup}
+use Rattle.ts_upstream.specs.InMemory.{memory_link}
 
 -- a setup that can be replayed is taken by a transaction whose plugins have the groups behind all others
 pub taken_setup : (setup : Setup) (at : ℕ) → HasPlainLines setup → at ≤ MOST_TXNS → IsTxnSetup setup at
@@ -45,78 +38,44 @@ taken_setup setup at lines low =
         groups = omega (arith, low, plugins);
       };
       plain = lines.plain;
+      ordered = lines.ordered;
     }
 
--- ---- a group as it is made
-
 -- no call of a recorded side fails or waits by its number
-sure_side : (pieces : List Piece) (leave : Option ℕ) (made : LinkState) → made ≡ recorded_side pieces leave
-    → IsSure (look_of made)
-sure_side pieces leave made is =
-    subst (λ (l : LinkState). IsSure (look_of l)) (sym is)
-    (record { fail_reads = refl; fail_writes = refl; again_reads = refl; again_writes = refl })
+sure_side : (pieces : List Piece) (leave : Option ℕ) → IsSure (look_of (recorded_side pieces leave))
+sure_side pieces leave =
+    record { fail_reads = refl; fail_writes = refl; again_reads = refl; again_writes = refl }
 
--- a journal is at rest before its first turn
-at_first : (s : State) → s.held ≡ false → s.next ≡ 1 → IsAtRest false s
-at_first s given one = (given, omega (arith, one), tt)
+pub sure_sides : (client origin : List Piece) (leave : Option ℕ)
+    → AreSureEnds look_of look_of (recorded_side client leave) (Some (recorded_side origin None))
+sure_sides client origin leave = record {
+  sure = sure_side client leave;
+  sure_origin = λ o is. subst (λ l. IsSure (look_of l)) (same_Some (recorded_side origin None) o is)
+      (sure_side origin None);
+}
 
--- that of a group that is only asked, too
-at_first_asked : (s : State) → s.held ≡ false → s.next ≡ 1 → s.pending ≡ [] → IsAtRest true s
-at_first_asked s given one none = (given, omega (arith, one), none)
+-- two sides that were just made were not used, and belong together
+pub new_sides : (client origin : LinkState) (bytes answer : List ℕ) → IsNewSide bytes client
+    → IsNewSide answer origin → AreNewEnds memory_link memory_link recorded_origin client (Some origin)
+new_sides client origin bytes answer of_client of_origin = record {
+  unused = λ tells. record {
+    no_given = of_client.no_given;
+    no_taken = of_client.no_taken;
+    no_carried = refl;
+  };
+  unused_origin = λ tells. record {
+    no_given = of_origin.no_given;
+    no_taken = of_origin.no_taken;
+    no_carried = refl;
+  };
+  paired = tt;
+}
 
--- what is known of a state before its first turn
-state_given : (g : RowGroup) → IsFresh 0 g.cx → g.cx.log.state.held ≡ false
-state_given g fresh = ap (λ (s : State). s.held) fresh.state
-
-first_number : (g : RowGroup) → IsFresh 0 g.cx → g.cx.log.state.next ≡ 1
-first_number g fresh = ap (λ (s : State). s.next) fresh.state
-
-none_pending : (g : RowGroup) → IsFresh 0 g.cx → g.cx.log.state.pending ≡ []
-none_pending g fresh = ap (λ (s : State). s.pending) fresh.state
-
--- of a transaction that was just made of two recorded sides
-module _ (setup : Setup) (at number : ℕ) (txn : TxnPieces) (tag : RecordedTag) (t : Recorded)
-    (is : IsTagOf setup at number txn false tag)
-    (number_is : t.core.number ≡ number) (setup_is : arc_value t.core.setup ≡ setup)
-    (plugins_at : t.core.plugins_at ≡ at)
-    (made : IsMadeOf look_of (recorded_side txn.client txn.leave) t.core.client)
-    (made_origin : IsMadeOfIf look_of (Some (recorded_side txn.origin None)) t.core.origin) where
-  -- it fits its tag
-  fits_recorded : IsOfTag tag t
-  fits_recorded =
-      fits_made look_of look_of tag t (number_is ∙ sym is.number_is) (setup_is ∙ sym is.setup_is)
-      (plugins_at ∙ sym is.plugins_at)
-      (subst (λ l. IsMadeOf look_of l t.core.client) (sym is.client) made)
-      (subst (λ o. IsMadeOfIf look_of o t.core.origin) (sym is.origin) made_origin)
-      (λ sure. (
-        sure_side txn.client txn.leave tag.client.value is.client,
-        λ l of_origin. sure_side txn.origin None l
-            (same_Some l (recorded_side txn.origin None) (sym of_origin ∙ is.origin)),
-      ))
-      is.started_is
-
-  -- and so does its group
-  pub fits_group : (g : RowGroup) → ((next : ℕ) (roles : List Named) → IsSoundWith t [] next roles)
-      → g.world ≡ One t → IsFresh 0 g.cx → FitsIn (kind.One tag) g
-  fits_group g sound world fresh = (
-    subst (IsOfRowTag (kind.One tag)) (sym world) fits_recorded,
-    subst (λ w. IsSoundRow w g.cx.log.state g.cx.roles) (sym world)
-        (subst (λ ps. IsSoundWith t ps g.cx.log.state.next g.cx.roles) (sym (none_pending g fresh))
-        (sound g.cx.log.state.next g.cx.roles)),
-    at_first g.cx.log.state (state_given g fresh) (first_number g fresh),
-    OnTrue_from tag.first (g.cx.log.base.made ≡ 0) (λ first. ap (λ b. b.made) fresh.base),
-  )
-
--- the group of a plugin that was just made of a line fits the tag of that line
-pub fits_plugin : (tag : PluginTag) (p : Plugin) (g : RowGroup) → p.line ≡ tag.line.value → g.world ≡ Other p
-    → IsFresh 0 g.cx → FitsIn (kind.Other tag) g
-fits_plugin tag p g line world fresh = (
-  subst (IsOfRowTag (kind.Other tag)) (sym world) line,
-  subst (λ w. IsSoundRow w g.cx.log.state g.cx.roles) (sym world)
-      (subst OnlyAnswers (sym fresh.state) (record { only = refl; plain = tt })),
-  at_first_asked g.cx.log.state (state_given g fresh) (first_number g fresh) (none_pending g fresh),
-  ap (λ b. b.made) fresh.base,
-)
+-- the tag between recorded ends is that of a transaction
+pub tag_of_txn : (setup : Setup) (at number : ℕ) (txn : TxnPieces) (tag : RecordedTag)
+    → IsTagBetween (recorded_ends setup at number txn) recorded_promise false tag → TakesSome txn.leave
+    → IsNewTagOf setup at (Transaction number txn) (kind.One tag)
+tag_of_txn setup at number txn tag between some = record { between = between; takes_some = some }
 
 -- ---- a row grows
 
@@ -187,21 +146,54 @@ row_whole setup at txns number tags groups but =
     subst (λ ts. AreGroupsOf setup at (numbered 1 ts) tags groups)
     (sym (but.split ∙ append-nil but.done)) but.row
 
--- whatever members had groups, behind them the plugins of these lines have theirs
-abbrev pub StandAdded : List PluginLine → List RowTag → List RowGroup → List RowTag → List RowGroup → Type 0
-StandAdded lines tags groups us hs =
-    (setup : Setup) (at : ℕ) (ms : List Member) → AreGroupsOf setup at ms tags groups
-    → AreGroupsOf setup at (ms ++ map HookPlugin lines) us hs
+-- ---- plugins behind
 
--- one line more
-pub added_more : (lines : List PluginLine) (line : PluginLine) (tags ts us : List RowTag)
-    (groups gs hs : List RowGroup) (tag : RowTag) (group : RowGroup) → StandAdded lines tags groups ts gs
-    → us ≡ ts ++ tag ∷ [] → hs ≡ gs ++ group ∷ []
-    → ((setup : Setup) (at : ℕ) → IsNewTagOf setup at (HookPlugin line) tag) → FitsIn tag group
-    → HasHadTurns 0 group → StandAdded (lines ++ line ∷ []) tags groups us hs
-added_more lines line tags ts us groups gs hs tag group added more moreover tagged fits new setup at ms row =
-    let behind = ap (λ l. ms ++ l) (map-append HookPlugin lines (line ∷ []))
-    ∙ sym (append_assoc ms (map HookPlugin lines) (HookPlugin line ∷ [])) in
-    subst (λ all. AreGroupsOf setup at all us hs) (sym behind)
-    (groups_more setup at (ms ++ map HookPlugin lines) (HookPlugin line) ts us gs hs tag group
-    (added setup at ms row) more moreover (tagged setup at) fits new)
+-- two lists that agree place by place, behind two others that do
+zipped_behind : {A B : Type 0} (R : A → B → Type 0) (xs : List A) (ys : List B) (us : List A) (vs : List B)
+    → AllZip R xs ys → AllZip R us vs → AllZip R (xs ++ us) (ys ++ vs)
+zipped_behind R [] [] us vs first behind = behind
+zipped_behind R [] (y ∷ ys) us vs first behind = absurd first
+zipped_behind R (x ∷ xs) [] us vs first behind = absurd first
+zipped_behind R (x ∷ xs) (y ∷ ys) us vs first behind =
+    (first.0, zipped_behind R xs ys us vs first.1 behind)
+
+-- the plugin of a line has the tag of a member, under whatever setup
+lines_tagged : (setup : Setup) (at : ℕ) (lines : List PluginLine) (tags : List RowTag)
+    → AllZip IsTagOfLine lines tags → AllZip (IsNewTagOf setup at) (map HookPlugin lines) tags
+lines_tagged setup at [] [] are = tt
+lines_tagged setup at [] (t ∷ tags) are = absurd are
+lines_tagged setup at (l ∷ ls) [] are = absurd are
+lines_tagged setup at (l ∷ ls) (kind.One t ∷ tags) are = absurd are.0
+lines_tagged setup at (l ∷ ls) (kind.Other p ∷ tags) are = (are.0, lines_tagged setup at ls tags are.1)
+
+-- whatever members had groups, behind them the plugins of these lines have theirs
+pub stand_behind : (setup : Setup) (at : ℕ) (ms : List Member) (lines : List PluginLine)
+    (tags us : List RowTag) (groups hs : List RowGroup) → AreGroupsOf setup at ms tags groups
+    → StandBehind memory_link memory_link recorded_origin stock_transform lines tags us groups hs
+    → AreGroupsOf setup at (ms ++ map HookPlugin lines) us hs
+stand_behind setup at ms lines tags us groups hs row stand =
+    subst (λ ts. AreGroupsOf setup at (ms ++ map HookPlugin lines) ts hs) (sym stand.tags_are)
+    (subst (λ gs. AreGroupsOf setup at (ms ++ map HookPlugin lines) (tags ++ stand.added_tags) gs)
+    (sym stand.groups_are) (record {
+      tags_are = zipped_behind (IsNewTagOf setup at) ms tags (map HookPlugin lines) stand.added_tags
+          row.tags_are (lines_tagged setup at lines stand.added_tags stand.lines_are);
+      fit = zipped_behind FitsIn tags groups stand.added_tags stand.added row.fit stand.fit;
+      new = All-append (HasHadTurns 0) groups stand.added row.new stand.new;
+    }))
+
+-- the row of transactions is that of all members, once the plugins of the setup's lines stand behind it
+pub row_behind : {E : Type 0} {X : Type 0} (tags_of : X → List RowTag) (groups_of : X → List RowGroup)
+    (setup : Setup) (txns : List TxnPieces) (lines : List PluginLine) (tags : List RowTag)
+    (groups : List RowGroup) (result : Result X E) → lines ≡ setup.plugins.items
+    → IsTxnRowOf setup txns tags groups
+    → IfOk result (λ r. StandBehind memory_link memory_link recorded_origin stock_transform lines tags
+    (tags_of r) groups (groups_of r))
+    → IfOk result (λ r. IsRowOf setup txns (tags_of r) (groups_of r))
+row_behind tags_of groups_of setup txns lines tags groups (Ok r) is row stand = record {
+  lines = row.lines;
+  groups_are = stand_behind setup (length txns) (numbered 1 txns) setup.plugins.items tags (tags_of r) groups
+      (groups_of r) row.groups_are
+      (subst (λ ls. StandBehind memory_link memory_link recorded_origin stock_transform ls tags (tags_of r)
+      groups (groups_of r)) is stand);
+}
+row_behind tags_of groups_of setup txns lines tags groups (Err e) is row stand = tt

@@ -2,29 +2,27 @@
 -- and its links did what the recording says.
 use Rattle.std.proofs.Common.{◌≡◌, ℕ, zero, suc, ◌+◌, ◌<◌, ◌≤◌, List, [], Option, Some, None, length, false}
 use Rattle.std.proofs.Common.{refl, sym, ap, subst, ◌∙◌, arith, true}
+use Rattle.std.specs.Prelude.{is_some}
 use Rattle.std.specs.Option.{option_map}
 use Rattle.std.proofs.lemmas.Option.{same_Some}
 use Rattle.ts_block.specs.Sent.{HasPlainRules}
 use Rattle.ts_config.specs.declared.setup.Setup.{Setup}
+use Rattle.ts_exchange.specs.Left.{IsSameOrigin, RefusesIf, look_if}
 use Rattle.ts_hooks.specs.declared.txn_end.TxnEnd.{TxnEnd}
 use Rattle.ts_journal.specs.declared.entry.TheConstants.{GREATEST}
 use Rattle.ts_link.specs.Counts.{Rose}
 use Rattle.ts_link.specs.Link.{Look, all_of}
 use Rattle.ts_link.specs.MemLink.{LinkState, look_of}
 use Rattle.ts_phases.specs.Ends.{EndFact}
-use Rattle.ts_phases.specs.View.{HasFailed, LinkSide, View, is_dialed, refuses_if, side, side_if}
+use Rattle.ts_phases.specs.Holding.{IsSameLink}
+use Rattle.ts_phases.specs.View.{HasFailed, LinkSide, View, side}
 use Rattle.ts_phases.specs.declared.parts.Peer.{Peer}
 use Rattle.ts_phases.specs.declared.parts.Sent.{Sent}
 use Rattle.ts_record.specs.Links.{GoesAsRecorded}
-use Rattle.ts_replay.specs.Exchanged.{IsLeftBetween, leave_of}
+use Rattle.ts_replay.specs.Exchanged.{IsLeftBetween, leave_of, leave_told}
 use Rattle.ts_replay.specs.Recorded.{recorded_origin}
 use Rattle.ts_replay.specs.Reports.{BothSides}
-use Rattle.ts_stock.specs.StockTransform.{stock_transform}
-use Rattle.ts_txn.specs.Making.{end_of_course, link_if}
 use Rattle.ts_txn.specs.declared.making.TxnParts.{TxnParts}
-use Rattle.ts_txn.proofs.Handling.{at_rest}
-use Rattle.ts_txn.proofs.Resting.{ended_so}
-use Rattle.ts_upstream.specs.InMemory.{memory_link}
 
 -- ---- what a recorded side may do
 
@@ -65,10 +63,6 @@ rose_some base faults rose = omega (arith, rose)
 
 -- ---- what stands
 
--- an origin's link refuses no upload
-abbrev refuses_none : LinkState → List ℕ → Type 0
-refuses_none link list = false ≡ true
-
 -- what a transaction saw whose origin's side was this
 abbrev pub viewed : LinkSide → Peer LinkState → Sent → View
 viewed client p sent = record {
@@ -106,85 +100,74 @@ module _ (setup : Setup) (sides : BothSides) (parts : TxnParts LinkState LinkSta
     (h : IsLeftBetween setup sides parts) (dialed : parts.origin ≡ Some link)
     (whole : all_of (look_of parts.client) ≡ (look_of parts.client).source)
     (goes : GoesAsRecorded link) (whole_link : all_of (look_of link) ≡ (look_of link).source) where
-  -- it has ended, and what holds of such an end does
-  end_fact : (end : TxnEnd) × (end_of_course h.txn.course ≡ Some end)
-      × EndFact setup (refuses_if refuses_none h.txn.core.origin (look_of h.txn.core.client.link).source)
-      (record {
-        client = side look_of h.txn.core.client;
-        dialed = is_dialed h.txn.core.origin;
-        origin = side_if look_of h.txn.core.origin;
-        sent = h.txn.core.sent;
-      }) end
-  end_fact = by_end (end_of_course h.txn.course) refl
-    where
-      Fact : Setup → TxnEnd → Type 0
-      Fact s end = EndFact s
-          (refuses_if refuses_none h.txn.core.origin (look_of h.txn.core.client.link).source)
-          (record {
-            client = side look_of h.txn.core.client;
-            dialed = is_dialed h.txn.core.origin;
-            origin = side_if look_of h.txn.core.origin;
-            sent = h.txn.core.sent;
-          }) end
+  abbrev seen : View
+  seen = h.exchanges.view
 
-      by_end : (o : Option TxnEnd) → end_of_course h.txn.course ≡ o
-          → (end : TxnEnd) × (end_of_course h.txn.course ≡ Some end) × Fact setup end
+  -- it has ended
+  abbrev an_end : (end : TxnEnd) × (parts.end ≡ Some end)
+  an_end = by_end parts.end refl
+    where
+      by_end : (o : Option TxnEnd) → parts.end ≡ o → (end : TxnEnd) × (parts.end ≡ Some end)
       by_end None none =
-          let spent : GREATEST ≤ h.run.next =
-          at_rest memory_link memory_link recorded_origin stock_transform h.txn h.run.next h.run.roles
-          h.run.started none h.run.sound in
-          let few = h.run.left in
+          let spent : GREATEST ≤ h.state.next = h.exchanges.rests refl h.idle none in
+          let few = h.numbers in
           absurd (omega (arith, spent, few))
-      by_end (Some end) is = (
-        end,
-        is,
-        subst (λ s. Fact s end) h.run.setup_is
-            (ended_so memory_link memory_link recorded_origin stock_transform h.txn [] h.run.next h.run.roles
-            end is h.run.sound refl refl),
-      )
+      by_end (Some end) is = (end, is)
+
+  -- its origin's side is that of the link that is left
+  abbrev own_side : Peer LinkState
+  own_side = record {
+    link = link;
+    base = seen.origin.base;
+    inbox = seen.origin.inbox;
+    outbox = seen.origin.outbox;
+  }
+
+  seen_is : seen ≡ viewed seen.client own_side seen.sent
+  seen_is =
+      let asked : seen ≡ record seen { dialed = true } = ap (λ d. record seen { dialed = d })
+      (h.exchanges.seen.dialed ∙ ap is_some dialed) in
+      let told : record seen { dialed = true } ≡ viewed seen.client own_side seen.sent =
+      ap (λ l. record seen { dialed = true; origin = record seen.origin { look = l } })
+      (h.exchanges.seen.origin ∙ ap (look_if look_of) dialed) in
+      asked ∙ told
+
+  -- and what holds of such an end does
+  end_fact : EndFact setup (false ≡ true) (viewed seen.client own_side seen.sent) an_end.0
+  end_fact =
+      let fact = (h.exchanges.ended an_end.0 an_end.1).fact refl refl in
+      subst (λ v. EndFact setup (false ≡ true) v an_end.0) seen_is
+      (subst (λ s. EndFact s (false ≡ true) seen an_end.0) h.ends_are.setup_is
+      (subst (λ o. EndFact h.ends.setup
+      (RefusesIf recorded_origin.refuses o (look_of parts.client).source) seen an_end.0) dialed fact))
+
+  -- the links are those between which it was made
+  same_link : IsSameLink (look_of h.ends_are.origin) (look_of link)
+  same_link = subst (λ o. IsSameOrigin look_of (Some h.ends_are.origin) o) dialed
+      (subst (λ o. IsSameOrigin look_of o parts.origin) h.ends_are.dialed h.exchanges.keeps.origin_is)
 
   -- so it stands
   pub stands_ended : StandsEnded setup sides parts link
-  stands_ended = of_origin h.txn.core.origin (sym h.links.1 ∙ dialed) h.run.answers h.run.stays end_fact.2
-    where
-      client_is : look_of h.txn.core.client.link ≡ look_of parts.client
-      client_is = ap look_of (sym h.links.0)
-
-      of_origin : (x : Option (Peer LinkState)) → link_if x ≡ Some link
-          → (side_if look_of x).look.source ≡ sides.origin → leave_of (side_if look_of x).look ≡ None
-          → EndFact setup (refuses_if refuses_none x (look_of h.txn.core.client.link).source)
-          (record {
-            client = side look_of h.txn.core.client;
-            dialed = is_dialed x;
-            origin = side_if look_of x;
-            sent = h.txn.core.sent;
-          }) end_fact.0
-          → StandsEnded setup sides parts link
-      of_origin None is answers stays fact = absurd (cc)
-      of_origin (Some p) is answers stays fact =
-          let same : p.link ≡ link = same_Some p.link link is in
-          record {
-            plain = h.run.plain;
-            client = side look_of h.txn.core.client;
-            origin = p;
-            sent = h.txn.core.sent;
-            origin_is = same;
-            look = client_is;
-            gives = whole ∙ ap (λ (l : Look). l.source) (sym client_is) ∙ h.run.gives;
-            answers = whole_link ∙ ap (λ (l : LinkState). (look_of l).source) (sym same) ∙ answers;
-            leaves = ap leave_of (sym client_is) ∙ h.run.leaves;
-            head = h.sent.0;
-            mode = h.sent.1;
-            cuts = h.sent.2;
-            failed = λ rose. subst (λ (l : LinkState). 0 < l.faults) (sym h.links.0)
-                (rose_some h.txn.core.client.base h.txn.core.client.link.faults rose);
-            never = λ rose.
-                let none : link.faults ≡ 0 = no_fault link goes
-                (ap (λ (l : LinkState). leave_of (look_of l)) (sym same) ∙ stays) in
-                let some : 0 < link.faults = subst (λ (l : LinkState). 0 < l.faults) same
-                (rose_some p.base p.link.faults rose) in
-                absurd (omega (arith, none, some));
-            end = end_fact.0;
-            end_is = h.end_is ∙ end_fact.1;
-            fact = fact;
-          }
+  stands_ended = record {
+    plain = h.ends_are.plain;
+    client = seen.client;
+    origin = own_side;
+    sent = seen.sent;
+    origin_is = refl;
+    look = h.exchanges.seen.client;
+    gives = whole ∙ h.exchanges.keeps.client_is.source ∙ h.ends_are.gives;
+    answers = whole_link ∙ same_link.source ∙ h.ends_are.answers;
+    leaves = ap leave_told h.exchanges.keeps.client_is.plan ∙ h.ends_are.leaves;
+    head = h.exchanges.seen.head;
+    mode = h.exchanges.seen.mode;
+    cuts = h.exchanges.seen.cuts;
+    failed = λ rose. subst (λ (l : Look). 0 < l.faults) h.exchanges.seen.client
+        (rose_some seen.client.base seen.client.look.faults rose);
+    never = λ rose.
+        let none : link.faults ≡ 0 = no_fault link goes (ap leave_told same_link.plan ∙ h.ends_are.stays) in
+        let some : 0 < link.faults = rose_some seen.origin.base link.faults rose in
+        absurd (omega (arith, none, some));
+    end = an_end.0;
+    end_is = an_end.1;
+    fact = end_fact;
+  }

@@ -4,6 +4,7 @@ use Rattle.std.proofs.Common.{false, Option, Some, None, length, refl, sym, ap, 
 use Rattle.std.proofs.lemmas.List.{append-nil, take_at, drop_at}
 use Rattle.std.proofs.lemmas.Option.{same_Some}
 use Rattle.ts_config.specs.declared.setup.Setup.{Setup}
+use Rattle.ts_exchange.specs.Left.{Exchanges}
 use Rattle.ts_hooks.specs.declared.txn_end.TxnEnd.{TxnEnd}
 use Rattle.ts_hooks.specs.declared.txn_end.TxnEnd.TheVariants as E
 use Rattle.ts_link.specs.Link.{Look, all_of}
@@ -14,14 +15,14 @@ use Rattle.ts_record.specs.declared.report.ReportBlock.{ReportBlock}
 use Rattle.ts_block.specs.Block.{IsBlock}
 use Rattle.ts_phases.specs.Ends.{EndFact, HasText, ShortEnd}
 use Rattle.ts_phases.specs.Facts.{TookExactly}
-use Rattle.ts_txn.specs.Making.{end_of_course, link_if}
 use Rattle.ts_phases.specs.View.{HasFailed, side}
 use Rattle.ts_block.specs.declared.block.Block.{Block}
 use Rattle.ts_txn.specs.declared.making.TxnParts.{TxnParts}
+use Rattle.ts_upstream.specs.InMemory.{memory_link}
 use Rattle.ts_wire.specs.Frames.{cut_body, frames}
 use Rattle.ts_replay.specs.Exchanged.{GotBy, HasGot, HasTaken, IsLeftBetween, IsRunBetween, LeavesBlock}
 use Rattle.ts_replay.specs.Exchanged.{MayEnd, ShowsEnd}
-use Rattle.ts_replay.specs.Recorded.{Recorded}
+use Rattle.ts_replay.specs.Recorded.{Recorded, recorded_origin}
 use Rattle.ts_replay.specs.Reports.{BothSides, IsShownBy, IsShownOf, in_report}
 use Rattle.ts_replay.specs.Unframing.{IsFramed}
 use Rattle.ts_replay.proofs.Blocks.{EndsBlankIf, block_shaped}
@@ -72,10 +73,10 @@ module _ (setup : Setup) (sides : BothSides) (parts : TxnParts LinkState LinkSta
   }
 
   -- the origin took this request
-  pub taken_of : (request : List ℕ) → EndsBlankIf request → TookExactly request (side look_of s.origin)
-      → HasTaken link request
+  pub taken_of : (request : List ℕ) → EndsBlankIf request
+      → TookExactly (false ≡ true) request (side look_of s.origin) → HasTaken link request
   taken_of request ends took = record {
-    upload = took.upload;
+    upload = [];
     text = sym (ap (λ (l : LinkState). l.taken) s.origin_is) ∙ took.text;
     nothing = took.nothing;
     ends = ends;
@@ -83,7 +84,7 @@ module _ (setup : Setup) (sides : BothSides) (parts : TxnParts LinkState LinkSta
 
   -- and so that of its block
   pub block_taken : (b : Block) → IsBlockOf setup (all_of s.client.look) (all_of (look_of s.origin.link)) b
-      → TookExactly b.request (side look_of s.origin) → HasTaken link b.request
+      → TookExactly (false ≡ true) b.request (side look_of s.origin) → HasTaken link b.request
   block_taken b says took =
       taken_of b.request (block_shaped setup s.plain true (false ≡ true) _ _ b says).request took
 
@@ -143,13 +144,17 @@ module _ (setup : Setup) (sides : BothSides) (parts : TxnParts LinkState LinkSta
 
 -- what is left of a transaction that was run between two sides
 pub left_between : (setup : Setup) (sides : BothSides) (t : Recorded) (parts : TxnParts LinkState LinkState)
-    → IsRunBetween setup sides t
-    → (parts.client ≡ t.core.client.link) × (parts.origin ≡ link_if t.core.origin)
-    → (parts.head ≡ t.core.sent.head) × (parts.mode ≡ t.core.sent.mode) ×
-    (parts.cuts.items ≡ t.core.sent.cuts.items) → parts.end ≡ end_of_course t.course
+    → (run : IsRunBetween setup sides t)
+    → Exchanges memory_link memory_link recorded_origin run.ends true run.state parts
     → IsLeftBetween setup sides parts
-left_between setup sides t parts run links sent ends = record
-    { txn = t; run = run; links = links; sent = sent; end_is = ends }
+left_between setup sides t parts run exchanges = record {
+  ends = run.ends;
+  ends_are = run.ends_are;
+  state = run.state;
+  idle = run.idle;
+  numbers = run.numbers;
+  exchanges = exchanges;
+}
 
 -- the frames behind the head of a whole answer
 pub framed_behind : (parts : TxnParts LinkState LinkState) (link : LinkState) (b : Block) (behind : List ℕ)
@@ -203,10 +208,16 @@ content_is parts link _ b behind content is h whole short = short (λ e. cc) ∙
 -- a block that is this one part by part is shown
 pub block_same : (request : List ℕ) (end : TxnEnd) (head content : List ℕ) (b : Block) → request ≡ b.request
     → end ≡ b.end → head ≡ b.head → content ≡ b.body
-    → ◌≡◌ {A = ReportBlock} (record { request = request; end = end; head = head; content = content })
-    (in_report b)
+    → ◌≡◌ {A = ReportBlock} (record {
+      request = request;
+      upload = None;
+      end = end;
+      head = head;
+      content = content;
+      tap = None;
+    }) (in_report b)
 block_same request end head content b p q r s = λ i. record
-    { request = p i; end = q i; head = r i; content = s i }
+    { request = p i; upload = None; end = q i; head = r i; content = s i; tap = None }
 
 -- the block that was cut out of the parts is the one that is shown
 module _ {X : Type 0} (setup : Setup) (sides : BothSides) (stays : sides.leave ≡ None) (b : Block) where

@@ -1,26 +1,27 @@
 -- A recorded transaction that has ended, and what it left.
 use Rattle.std.specs.Prelude.{◌≡◌, ◌⊎◌, ℕ, ◌<◌, List, [], ◌∷◌, ◌++◌, length, map, All, Bool, true, false}
-use Rattle.std.specs.Prelude.{IsSomeAnd, None, Option, Some, codes, take, ⊤}
-use Rattle.std.specs.Arc.{arc_value}
-use Rattle.memchr.specs.Find.{OccursAt}
+use Rattle.std.specs.Prelude.{IsSomeAnd, None, Option, Some, take, ⊤}
 use Rattle.ts_block.specs.Sent.{HasPlainRules}
 use Rattle.ts_config.specs.declared.setup.Setup.{Setup}
-use Rattle.ts_group.specs.declared.action.Named.{Named}
 use Rattle.ts_group.specs.declared.either.Either.TheVariants.{One, Other}
+use Rattle.ts_exchange.specs.Ends.{Ends}
+use Rattle.ts_exchange.specs.Left.{Exchanges, IsBetween}
 use Rattle.ts_hooks.specs.declared.txn_end.TxnEnd.{TxnEnd}
 use Rattle.ts_hooks.specs.declared.txn_end.TxnEnd.TheVariants as E
+use Rattle.ts_journal.specs.State.{State}
 use Rattle.ts_journal.specs.declared.entry.TheConstants.{GREATEST}
 use Rattle.ts_link.specs.Link.{Look, Plan}
 use Rattle.ts_link.specs.MemLink.{LinkState, look_of}
 use Rattle.ts_record.specs.Report.{IsReported}
 use Rattle.ts_record.specs.declared.report.ReportBlock.{ReportBlock}
-use Rattle.ts_replay.specs.Recorded.{IsSoundWith, Recorded, RowWorld, TakesSome}
+use Rattle.ts_replay.specs.Recorded.{Recorded, RowWorld, TakesSome, recorded_origin}
 use Rattle.ts_replay.specs.Reports.{BothSides, IsShownOf}
-use Rattle.ts_txn.specs.CourseCover.{is_fresh_on}
-use Rattle.ts_txn.specs.Making.{end_of_course, link_if}
-use Rattle.ts_phases.specs.View.{is_dialed, side_if}
+use Rattle.ts_stock.specs.StockTransform.{stock_transform}
+use Rattle.ts_txn.specs.Making.{end_of_course}
 use Rattle.ts_block.specs.declared.block.Block.{Block}
 use Rattle.ts_txn.specs.declared.making.TxnParts.{TxnParts}
+use Rattle.ts_upstream.specs.InMemory.{memory_link}
+use Rattle.ts_wire.specs.Blank.{EndsBlank}
 use Rattle.ts_wire.specs.Frames.{IsPiece, cut_body, frames}
 
 -- how many bytes a link takes in all, where it leaves
@@ -31,43 +32,38 @@ leave_told (Some p) = p.leave
 abbrev pub leave_of : Look → Option ℕ
 leave_of l = leave_told l.plan
 
--- The transaction is one of this setup, whose header rules leave alone what the proxy sees to itself, between
--- two sides that give these bytes, of which the client leaves or stays. It was started, nothing of its group
--- is pending, the group has an event number left, and what is to hold of it holds.
-pub record IsRunBetween (setup : Setup) (sides : BothSides) (t : Recorded) : Type 0 where
-  pub setup_is : arc_value t.core.setup ≡ setup
+-- These ends are of this setup, whose header rules leave alone what the proxy sees to itself, and two sides that
+-- give these bytes, of which the client leaves or stays.
+pub record AreEndsOf (setup : Setup) (sides : BothSides) (ends : Ends LinkState LinkState) : Type 0 where
+  pub setup_is : ends.setup ≡ setup
   pub plain : HasPlainRules setup
-  pub gives : (look_of t.core.client.link).source ≡ sides.client
-  pub leaves : leave_of (look_of t.core.client.link) ≡ sides.leave
+  pub gives : (look_of ends.client).source ≡ sides.client
+  pub leaves : leave_of (look_of ends.client) ≡ sides.leave
   pub takes_some : TakesSome sides.leave
-  pub dialed : is_dialed t.core.origin ≡ true
-  pub answers : (side_if look_of t.core.origin).look.source ≡ sides.origin
-  pub stays : leave_of (side_if look_of t.core.origin).look ≡ None
-  pub started : is_fresh_on t.course ≡ false
-  pub next : ℕ
-  pub left : next < GREATEST
-  pub roles : List Named
-  pub sound : IsSoundWith t [] next roles
+  pub origin : LinkState
+  pub dialed : ends.origin ≡ Some origin
+  pub answers : (look_of origin).source ≡ sides.origin
+  pub stays : leave_of (look_of origin) ≡ None
+
+-- The transaction is one between such ends. It was started, nothing of its group is pending, the group has an
+-- event number left, and what is to hold of it holds.
+pub record IsRunBetween (setup : Setup) (sides : BothSides) (t : Recorded) : Type 0 where
+  pub ends : Ends LinkState LinkState
+  pub ends_are : AreEndsOf setup sides ends
+  pub state : State
+  pub idle : state.pending ≡ []
+  pub numbers : state.next < GREATEST
+  pub between : IsBetween memory_link memory_link recorded_origin stock_transform ends true t state
 
 -- what is left of such a transaction
 pub record IsLeftBetween (setup : Setup) (sides : BothSides) (parts : TxnParts LinkState LinkState)
     : Type 0 where
-  pub txn : Recorded
-  pub run : IsRunBetween setup sides txn
-  pub links : (parts.client ≡ txn.core.client.link) × (parts.origin ≡ link_if txn.core.origin)
-  pub sent : (parts.head ≡ txn.core.sent.head) × (parts.mode ≡ txn.core.sent.mode)
-      × (parts.cuts.items ≡ txn.core.sent.cuts.items)
-  pub end_is : parts.end ≡ end_of_course txn.course
-
--- the end of the last field of a head, and its empty line (RFC 9112, section 2.1)
-abbrev pub blank_end : List ℕ
-blank_end = codes "\r\n\r\n"
-
--- the text ends with an empty line, which is the only one in it
-pub record EndsBlank (text : List ℕ) : Type 0 where
-  pub front : List ℕ
-  pub text_is : text ≡ front ++ blank_end
-  pub once : (place : ℕ) → OccursAt text blank_end place → place ≡ length front
+  pub ends : Ends LinkState LinkState
+  pub ends_are : AreEndsOf setup sides ends
+  pub state : State
+  pub idle : state.pending ≡ []
+  pub numbers : state.next < GREATEST
+  pub exchanges : Exchanges memory_link memory_link recorded_origin ends true state parts
 
 -- an origin took this request, behind which there is at most an upload
 pub record HasTaken (origin : LinkState) (request : List ℕ) : Type 0 where

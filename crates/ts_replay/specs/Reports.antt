@@ -28,12 +28,25 @@ sides_of txn =
 
 -- a block as a report shows it
 abbrev pub in_report : Block → ReportBlock
-in_report b = record { request = b.request; end = b.end; head = b.head; content = b.body }
+in_report b = record {
+  request = b.request;
+  upload = None;
+  end = b.end;
+  head = b.head;
+  content = b.body;
+  tap = None;
+}
 
 -- what a report shows where the client left after so many bytes: the request, and what it got of the head
 abbrev pub left_report : ℕ → List ℕ → List ℕ → ReportBlock
-left_report most request head =
-    record { request = request; end = E.ClientFault; head = take most head; content = [] }
+left_report most request head = record {
+  request = request;
+  upload = None;
+  end = E.ClientFault;
+  head = take most head;
+  content = [];
+  tap = None;
+}
 
 -- What is shown of a transaction whose client stays: the block of all that the two sides give, each followed
 -- by its end.

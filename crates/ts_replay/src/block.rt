@@ -3,28 +3,30 @@
 ghost use Rattle.std.specs.Prelude.{◌≡◌, ◌≢◌, ◌++◌, ℕ, List, [], IfOk};
 ghost use Rattle.ts_config.specs.declared.setup.Setup.{Setup as SetupOf};
 ghost use Rattle.ts_record.specs.Report.{IsReported};
-ghost use Rattle.ts_replay.specs.Exchanged.{EndsBlank, HasTaken, IsLeftBetween, IsRunBetween};
+ghost use Rattle.ts_replay.specs.Exchanged.{HasTaken, IsLeftBetween, IsRunBetween};
 ghost use Rattle.ts_replay.specs.Exchanged.{LeavesBlock, LeavesHeads, ShowsEnd};
 ghost use Rattle.ts_replay.specs.Reports.{BothSides, IsShownOf, in_report, left_report};
 ghost use Rattle.ts_replay.specs.Unframing.{IsFramed};
 ghost use Rattle.ts_txn.specs.Making.{end_of_course};
 ghost use Rattle.ts_block.specs.declared.block.Block.{Block};
+ghost use Rattle.ts_wire.specs.Blank.{EndsBlank};
 ghost use Rattle.ts_wire.specs.Frames.{cut_body};
 
 use crate::framed::unframed;
 use memchr::memmem;
 use std::alloc::Global;
+use ts_exchange::{Exchange, take_apart};
 use ts_hooks::TxnEnd;
-use ts_link::{NoMemory, Octets};
+use ts_link::{NoMemory, Octets, Sourced};
 use ts_record::{RecordedLink, ReportBlock};
 use ts_stock::Stock;
-use ts_txn::{Txn, TxnParts};
+use ts_txn::TxnParts;
 
 // The end of the last field of a head, and its empty line.
 const BLANK_END: &[u8] = b"\r\n\r\n";
 
 /// A transaction between two recorded sides, whose body goes through stock transforms.
-pub type Recorded = Txn<RecordedLink, RecordedLink, Stock>;
+pub type Recorded = Exchange<RecordedLink, RecordedLink, Stock>;
 
 // What is left of one.
 type RecordedParts = TxnParts<RecordedLink, RecordedLink>;
@@ -85,9 +87,11 @@ fn block_of(
     let content = content_of(alloc, parts, end, framed)?;
     Ok(ReportBlock {
         request,
+        upload: None,
         end,
         head,
         content,
+        tap: None,
     })
 }
 
@@ -109,9 +113,11 @@ fn block_before(
     let head = Octets::copy_of(alloc, written.split_at(shown).0)?;
     Ok(ReportBlock {
         request,
+        upload: None,
         end: TxnEnd::ClientFault,
         head,
         content: Octets::of_vec(Vec::new(alloc)),
+        tap: None,
     })
 }
 
@@ -151,6 +157,6 @@ pub fn block_after(alloc: Global, txn: Recorded) -> Result<ReportBlock, NoMemory
         → IfOk result (λ b. ShowsEnd sides.leave (end_of_course txn.course) b.end) }
     ensures reported { IfOk result (λ b. IsReported b.end) }
 {
-    let parts = txn.into_parts();
+    let parts = take_apart(txn);
     block_left(alloc, &parts)
 }

@@ -5,6 +5,7 @@ ghost use Rattle.std.specs.Prelude.{◌<◌, ◌≤◌, IfOk, length};
 ghost use Rattle.ts_block.specs.Sent.{HasPlainRules};
 ghost use Rattle.ts_config.specs.Reading.{AreFew};
 ghost use Rattle.ts_config.specs.Setup.{lines_of};
+ghost use Rattle.ts_plugin.specs.Lines.{AreOrdered};
 ghost use Rattle.ts_replay.specs.Heads.{AreHeadsOfBlock};
 ghost use Rattle.ts_replay.specs.Recorded.{AllTakeSome};
 ghost use Rattle.ts_replay.specs.Replayed.{IsReplayed};
@@ -35,14 +36,16 @@ pub fn replay<G: Gate + Sync, R: Threads + Wait + Sync>(
 ) -> Result<Replayed, ReplayFault>
     requires few { AreFew (lines_of setup) }
     requires plain { HasPlainRules setup }
+    requires ordered { AreOrdered setup.plugins.items }
     requires txns { length txns.items ≤ MOST_TXNS }
     requires leaves { AllTakeSome txns.items }
     requires threads { (0 < threads) × (threads ≤ MOST_THREADS) }
     ensures { IfOk result (IsReplayed (lines_of setup) txns.items) }
 {
     let setup = Arc::new(alloc, setup)?;
+    let starts = txns.len() as u32;
     let row = make_row(alloc, &setup, txns)?;
-    let groups = run_row(rt, alloc, row, threads, gate)?;
+    let groups = run_row(rt, alloc, row, starts, threads, gate)?;
     let replayed = outcomes_of(alloc, groups)?;
     Ok(replayed)
 }

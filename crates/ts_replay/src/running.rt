@@ -1,6 +1,6 @@
 //! A row of groups is run by event threads, and then driven to its end.
 
-ghost use Rattle.std.specs.Prelude.{◌<◌, ◌≤◌, IfOk, List, length};
+ghost use Rattle.std.specs.Prelude.{◌≡◌, ◌<◌, ◌≤◌, IfOk, List, length};
 ghost use Rattle.ts_config.specs.declared.setup.Setup.{Setup};
 ghost use Rattle.ts_record.specs.Grammar.{TxnPieces};
 ghost use Rattle.ts_replay.specs.Replayed.{AreDone};
@@ -14,34 +14,38 @@ use std::thread::Threads;
 use ts_group::Group;
 use ts_link::Gate;
 use ts_record::MOST_TXNS;
-use ts_thread::{MOST_THREADS, Unfinished, run_whole};
+use ts_thread::{MOST_THREADS, Plan, Unfinished, run_whole};
 
 /// How many turns a thread takes at most. What is left then is handled once the threads have ended.
 pub const BUDGET: u64 = 1_000_000;
 
-/// Runs the groups of a row by so many threads, and drives them to their end.
+/// Runs the groups of a row by so many threads, and drives them to their end. The first so many are those of
+/// transactions, and are started.
 pub fn run_row<G: Gate + Sync, R: Threads + Wait + Sync>(
     rt: &R,
     alloc: Global,
     row: GroupRow,
+    starts: u32,
     threads: u32,
     gate: &G,
 ) -> Result<Vec<Group<RowWorld>>, ReplayFault>
     requires row { (setup : Setup) × (txns : List TxnPieces) × (length txns ≤ MOST_TXNS)
-        × IsRowOf setup txns row }
+        × (starts ≡ length txns) × IsRowOf setup txns row.tags.items row.groups.items }
     requires threads { (0 < threads) × (threads ≤ MOST_THREADS) }
-    ensures { (setup : Setup) (txns : List TxnPieces) → IsRowOf setup txns row →
-        IfOk result (λ gs. AreDone setup txns gs.items) }
+    ensures { (setup : Setup) (txns : List TxnPieces) → starts ≡ length txns
+        → IsRowOf setup txns row.tags.items row.groups.items
+        → IfOk result (λ gs. AreDone setup txns gs.items) }
 {
-    let GroupRow {
-        groups,
-        tags,
-        starts,
-    } = row;
+    let GroupRow { groups, tags } = row;
     if groups.is_empty() {
         return Ok(groups);
     }
-    match run_whole(rt, alloc, groups, tags, starts, threads, BUDGET, gate) {
+    let plan = Plan {
+        starts,
+        threads,
+        budget: BUDGET,
+    };
+    match run_whole(rt, alloc, groups, tags, plan, gate) {
         Ok(groups) => Ok(groups),
         Err(Unfinished::NoMemory) => Err(ReplayFault::NoMemory),
         Err(Unfinished::Worn) => Err(ReplayFault::Worn),

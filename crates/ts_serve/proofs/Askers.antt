@@ -1,4 +1,4 @@
--- The groups of a room whose guests are transactions can be asked: those that a transaction asks are the
+-- The groups of a server whose handlers are transactions can be asked: those that a transaction asks are the
 -- plugins beside the places.
 use Rattle.std.proofs.Common.{◌≡◌, ◌≢◌, ℕ, zero, suc, ◌+◌, ◌<◌, ◌≤◌, List, [], ◌∷◌, ◌++◌, All, length, map}
 use Rattle.std.proofs.Common.{replicate, Bool, true, false, refl, sym, ap, subst, ◌∙◌, arith}
@@ -14,7 +14,7 @@ use Rattle.ts_group.specs.declared.either.Either.{Either}
 use Rattle.ts_group.specs.declared.either.Either.TheVariants.{One, Other}
 use Rattle.ts_group.specs.declared.either.EitherTag.{EitherTag}
 use Rattle.ts_group.specs.declared.either.EitherTag.TheVariants as kind
-use Rattle.ts_link.specs.Link.{Look}
+use Rattle.ts_link.specs.declared.link.Link as link
 use Rattle.ts_plugin.specs.Replies.{IsReplyOf}
 use Rattle.ts_plugin.specs.World.{IsPluginOf, OnlyAnswers}
 use Rattle.ts_plugin.specs.declared.plugin.Plugin.{Plugin}
@@ -27,29 +27,30 @@ use Rattle.ts_txn.specs.Making.{IsTxnSetup}
 use Rattle.ts_txn.specs.World.{IsTxnOf, LetsContinue}
 use Rattle.ts_txn.specs.declared.txn.Txn.{Txn}
 use Rattle.ts_serve.specs.Places.{PlaceFits, PlaceMayAsk, PlaceRight, PlaceAnswers}
-use Rattle.ts_serve.specs.Rooms.{CanAskInRoom, StandsBeside, room_tags}
-use Rattle.ts_serve.specs.Transactions.{ArePluginsOf, IsPluginOfLine, KeepsTerms}
-use Rattle.ts_serve.specs.declared.door.TheConstants.{PLACES}
-use Rattle.ts_serve.specs.declared.opening.Beside.{Beside}
+use Rattle.ts_serve.specs.Servers.{CanAskInServer, StandsBeside, server_tags}
+use Rattle.ts_exchange.specs.Plugins.{ArePluginsOf, IsPluginOfLine}
+use Rattle.ts_serve.specs.Exchanges.{KeepsTerms}
+use Rattle.ts_serve.specs.declared.acceptor.TheConstants.{PLACES}
+use Rattle.ts_exchange.specs.declared.plugins.Tagged.{Tagged}
 use Rattle.ts_serve.specs.declared.place.Place.{Place}
 use Rattle.ts_serve.specs.declared.place.Place.TheVariants.{Empty, Tenant}
-use Rattle.ts_serve.specs.declared.transaction.TxnTerms.{TxnTerms}
+use Rattle.ts_serve.specs.declared.exchanges.TxnTerms.{TxnTerms}
 
 -- ---- where places and plugins stand
 
 -- the tag of a world beside the places
-abbrev other_tag : {A : Type 0} → Beside Plugin PluginTag → EitherTag A PluginTag
+abbrev other_tag : {A : Type 0} → Tagged Plugin PluginTag → EitherTag A PluginTag
 other_tag b = kind.Other b.tag
 
 -- beside the places no tag is one of a place
-not_beside : {A : Type 0} (others : List (Beside Plugin PluginTag)) (k : ℕ) (terms : A)
+not_beside : {A : Type 0} (others : List (Tagged Plugin PluginTag)) (k : ℕ) (terms : A)
     → slice_get (map other_tag others) k ≡ Some (kind.One terms) → ⊥
 not_beside [] k terms at = absurd (cc)
 not_beside (b ∷ bs) zero terms at = absurd (cc)
 not_beside (b ∷ bs) (suc k) terms at = not_beside bs k terms at
 
 -- what has the tag of a place stands among the places, and has their terms
-place_tag : {A : Type 0} (n k : ℕ) (terms own : A) (others : List (Beside Plugin PluginTag))
+place_tag : {A : Type 0} (n k : ℕ) (terms own : A) (others : List (Tagged Plugin PluginTag))
     → slice_get (replicate n (kind.One terms) ++ map other_tag others) k ≡ Some (kind.One own)
     → (k < n) × (own ≡ terms)
 place_tag zero k terms own others at = absurd (not_beside others k own at)
@@ -66,7 +67,7 @@ record HasPluginAt {A : Type 0} (tags : List (EitherTag A PluginTag)) (k : ℕ) 
   pub line_is : tag.line.value ≡ line
 
 -- that of the line at each place stands at this place among those of the plugins
-plugin_at : {A : Type 0} (lines : List PluginLine) (others : List (Beside Plugin PluginTag))
+plugin_at : {A : Type 0} (lines : List PluginLine) (others : List (Tagged Plugin PluginTag))
     → ArePluginsOf lines others → (place : ℕ) (line : PluginLine) → slice_get lines place ≡ Some line
     → HasPluginAt {A = A} (map other_tag others) place line
 plugin_at [] others are place line there = absurd (cc)
@@ -94,23 +95,23 @@ line_at (l ∷ ls) (suc place) below = line_at ls place (omega arith)
 
 -- ---- who asks whom
 
-module _ (C O Q : Type 0) (clook : C → Look) (olook : O → Look) (setup : Setup) (terms : TxnTerms)
-    (others : List (Beside Plugin PluginTag)) (setup_is : terms.setup.value ≡ setup)
+module _ (C O Q : Type 0) (clients : link.Ghosts C) (origins : link.Ghosts O) (setup : Setup) (terms : TxnTerms)
+    (others : List (Tagged Plugin PluginTag)) (setup_is : terms.setup.value ≡ setup)
     (at_places : terms.plugins_at ≡ PLACES) (are : ArePluginsOf setup.plugins.items others) where
-  -- whom a world of the room may ask, which replies are right for it, and which it gives
-  abbrev Room : Type 0
-  Room = Either (Place (Txn C O Q)) Plugin
+  -- whom a world of the server may ask, which replies are right for it, and which it gives
+  abbrev ServerWorld : Type 0
+  ServerWorld = Either (Place (Txn C O Q)) Plugin
 
-  abbrev FitsTag : EitherTag TxnTerms PluginTag → Room → Type 0
-  FitsTag = EitherFits (PlaceFits (λ tag t. IsTxnOf clook olook tag t) (KeepsTerms clook)) IsPluginOf
+  abbrev FitsTag : EitherTag TxnTerms PluginTag → ServerWorld → Type 0
+  FitsTag = EitherFits (PlaceFits (λ tag t. IsTxnOf clients origins tag t) (KeepsTerms clients.look)) IsPluginOf
 
-  abbrev MayAsk : Room → ℕ → Type 0
+  abbrev MayAsk : ServerWorld → ℕ → Type 0
   MayAsk = EitherMayAsk (PlaceMayAsk MayAskGroup) (λ p group. ⊥)
 
-  abbrev IsRight : Room → ℕ → HookQuestion → HookReply → Type 0
+  abbrev IsRight : ServerWorld → ℕ → HookQuestion → HookReply → Type 0
   IsRight = EitherRight (PlaceRight IsRightFor) (λ p group question reply. ⊤)
 
-  abbrev Answers : Room → HookQuestion → HookReply → Type 0
+  abbrev Answers : ServerWorld → HookQuestion → HookReply → Type 0
   Answers = EitherAnswers (PlaceAnswers (λ t question reply. LetsContinue question reply))
       (λ p question reply. IsReplyOf p.line question reply)
 
@@ -118,7 +119,7 @@ module _ (C O Q : Type 0) (clook : C → Look) (olook : O → Look) (setup : Set
   asked_only = tag_of (λ terms. false) (λ tag. true)
 
   abbrev tags : List (EitherTag TxnTerms PluginTag)
-  tags = room_tags terms others
+  tags = server_tags terms others
 
   plugin_of : (place : ℕ) (line : PluginLine) → slice_get setup.plugins.items place ≡ Some line
       → HasPluginAt tags (PLACES + place) line
@@ -131,17 +132,17 @@ module _ (C O Q : Type 0) (clook : C → Look) (olook : O → Look) (setup : Set
 
   -- a transaction in a place has the setup, and the groups behind the places for its plugins
   own_setup : (j : ℕ) (own : TxnTerms) (t : Txn C O Q) → slice_get tags j ≡ Some (kind.One own)
-      → PlaceFits (λ tag t. IsTxnOf clook olook tag t) (KeepsTerms clook) own (Tenant t)
+      → PlaceFits (λ tag t. IsTxnOf clients origins tag t) (KeepsTerms clients.look) own (Tenant t)
       → (arc_value t.core.setup ≡ setup) × (t.core.plugins_at ≡ PLACES)
   own_setup j own t there fits =
       let same = (place_tag PLACES j terms own others there).1 in (
-        fits.2.setup ∙ fits.1.setup ∙ ap (λ (s : TxnTerms). s.setup.value) same ∙ setup_is,
-        fits.2.plugins_at ∙ fits.1.plugins_at ∙ ap (λ (s : TxnTerms). s.plugins_at) same ∙ at_places,
+        fits.2.setup ∙ fits.1.tag_is.setup_is ∙ fits.1.ends_are.setup_is ∙ ap (λ (s : TxnTerms). s.setup.value) same ∙ setup_is,
+        fits.2.plugins_at ∙ fits.1.tag_is.plugins_are ∙ fits.1.ends_are.plugins_are ∙ ap (λ (s : TxnTerms). s.plugins_at) same ∙ at_places,
       )
 
   -- whom it may ask stands behind the places, and is only asked
   asks_behind : (j k : ℕ) (own : TxnTerms) (t : Txn C O Q) → slice_get tags j ≡ Some (kind.One own)
-      → PlaceFits (λ tag t. IsTxnOf clook olook tag t) (KeepsTerms clook) own (Tenant t) → MayAskGroup t k
+      → PlaceFits (λ tag t. IsTxnOf clients origins tag t) (KeepsTerms clients.look) own (Tenant t) → MayAskGroup t k
       → (j ≢ k) × (u : EitherTag TxnTerms PluginTag) × (slice_get tags k ≡ Some u) × (asked_only u ≡ true)
   asks_behind j k own t there fits may =
       let below = (place_tag PLACES j terms own others there).0 in
@@ -157,15 +158,15 @@ module _ (C O Q : Type 0) (clook : C → Look) (olook : O → Look) (setup : Set
       )
 
   -- what a world replies that fits the tag of a plugin is what the line says
-  reply_of_tag : (tag : PluginTag) (line : PluginLine) (v : Room) (q : HookQuestion) (r : HookReply)
+  reply_of_tag : (tag : PluginTag) (line : PluginLine) (v : ServerWorld) (q : HookQuestion) (r : HookReply)
       → tag.line.value ≡ line → FitsTag (kind.Other tag) v → Answers v q r → IsReplyOf line q r
   reply_of_tag tag line (One x) q r is fits answers = absurd fits
   reply_of_tag tag line (Other p) q r is fits answers = subst (λ l. IsReplyOf l q r) (fits ∙ is) answers
 
   -- and what a plugin replies is right for a transaction that may ask it
-  right_of : (j k : ℕ) (own : TxnTerms) (u : EitherTag TxnTerms PluginTag) (t : Txn C O Q) (v : Room)
+  right_of : (j k : ℕ) (own : TxnTerms) (u : EitherTag TxnTerms PluginTag) (t : Txn C O Q) (v : ServerWorld)
       (q : HookQuestion) (r : HookReply) → slice_get tags j ≡ Some (kind.One own)
-      → PlaceFits (λ tag t. IsTxnOf clook olook tag t) (KeepsTerms clook) own (Tenant t)
+      → PlaceFits (λ tag t. IsTxnOf clients origins tag t) (KeepsTerms clients.look) own (Tenant t)
       → slice_get tags k ≡ Some u → FitsTag u v → Answers v q r → IsRightFor t k q r
   right_of j k own u t v q r there fits at fit answers place line is group =
       let has = own_setup j own t there fits in
@@ -176,7 +177,7 @@ module _ (C O Q : Type 0) (clook : C → Look) (olook : O → Look) (setup : Set
       same_Some u (kind.Other p.tag) (sym at ∙ ap (slice_get tags) here ∙ p.there) in
       reply_of_tag p.tag line v q r p.line_is (subst (λ w. FitsTag w v) same fit) answers
 
-  asks_others : (j k : ℕ) (s : EitherTag TxnTerms PluginTag) (w : Room) → slice_get tags j ≡ Some s
+  asks_others : (j k : ℕ) (s : EitherTag TxnTerms PluginTag) (w : ServerWorld) → slice_get tags j ≡ Some s
       → FitsTag s w → MayAsk w k
       → (j ≢ k) × (u : EitherTag TxnTerms PluginTag) × (slice_get tags k ≡ Some u) × (asked_only u ≡ true)
   asks_others j k (kind.One own) (One Empty) there fits may = absurd may
@@ -185,7 +186,7 @@ module _ (C O Q : Type 0) (clook : C → Look) (olook : O → Look) (setup : Set
   asks_others j k (kind.Other s) (One x) there fits may = absurd fits
   asks_others j k (kind.Other s) (Other p) there fits may = absurd may
 
-  replies : (j k : ℕ) (s u : EitherTag TxnTerms PluginTag) (w v : Room) (q : HookQuestion) (r : HookReply)
+  replies : (j k : ℕ) (s u : EitherTag TxnTerms PluginTag) (w v : ServerWorld) (q : HookQuestion) (r : HookReply)
       → slice_get tags j ≡ Some s → FitsTag s w → slice_get tags k ≡ Some u → FitsTag u v → Answers v q r
       → IsRight w k q r
   replies j k (kind.One own) u (One Empty) v q r there fits at fit answers = tt
@@ -195,17 +196,17 @@ module _ (C O Q : Type 0) (clook : C → Look) (olook : O → Look) (setup : Set
   replies j k (kind.Other s) u (One x) v q r there fits at fit answers = absurd fits
   replies j k (kind.Other s) u (Other p) v q r there fits at fit answers = tt
 
-  -- the groups of the room can ask each other
-  pub room_asks : CanAskInRoom (λ tag t. IsTxnOf clook olook tag t) (KeepsTerms clook)
+  -- the groups of the server can ask each other
+  pub server_asks : CanAskInServer (λ tag t. IsTxnOf clients origins tag t) (KeepsTerms clients.look)
       (MayAskGroup {C = C} {O = O} {Q = Q}) IsRightFor (λ t question reply. LetsContinue question reply)
       IsPluginOf (λ tag. true) (λ p group. ⊥) (λ p group question reply. ⊤)
       (λ p question reply. IsReplyOf p.line question reply) tags
-  room_asks = record { others = asks_others; replies = replies }
+  server_asks = record { others = asks_others; replies = replies }
 
 -- ---- how plugins stand beside the places
 
 -- the plugins of lines fit their tags, are only asked, and are sound before anything was done in their groups
-pub plugins_stand : (lines : List PluginLine) (others : List (Beside Plugin PluginTag))
+pub plugins_stand : (lines : List PluginLine) (others : List (Tagged Plugin PluginTag))
     → ArePluginsOf lines others
     → All (StandsBeside IsPluginOf (λ p s roles. OnlyAnswers s) (λ tag. true)) others
 plugins_stand [] [] are = All-nil (StandsBeside IsPluginOf (λ p s roles. OnlyAnswers s) (λ tag. true))
@@ -221,7 +222,7 @@ plugins_stand (l ∷ ls) (b ∷ bs) are =
     (plugins_stand ls bs are.1)
 
 -- there are slots for them
-pub plugins_few : (setup : Setup) (others : List (Beside Plugin PluginTag))
+pub plugins_few : (setup : Setup) (others : List (Tagged Plugin PluginTag))
     → ArePluginsOf setup.plugins.items others → IsTxnSetup setup PLACES
     → PLACES + length others ≤ most_groups
 plugins_few setup others are is =

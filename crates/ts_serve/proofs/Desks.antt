@@ -8,7 +8,7 @@ use Rattle.ts_thread.specs.declared.desk.Desk.{Desk}
 use Rattle.ts_thread.specs.Desks.{KeepsDesk}
 use Rattle.ts_thread.specs.Seats.{KeepsSeat}
 use Rattle.ts_thread.proofs.Seats.{keeps_refl, keeps_trans}
-use Rattle.ts_serve.specs.Door.{KeepsSome, KeepsDeskSome}
+use Rattle.ts_serve.specs.Acceptor.{KeepsSome, KeepsDeskSome}
 
 le_itself : (n : ℕ) → n ≤ n
 le_itself n = omega arith

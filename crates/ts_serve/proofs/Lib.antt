@@ -1,11 +1,11 @@
--- The lemmas of the room of a net, for its own proofs and those of the crates above.
-pub mod Books
+-- The lemmas of the server of a net, for its own proofs and those of the crates above.
+pub mod Balance
 pub mod Desks
 pub mod Accounts
-pub mod Living
-pub mod Helpers
+pub mod Tenants
+pub mod Splits
 mod Ending
-mod Rooms
+mod Servers
 mod Leftovers
 mod Serves
 mod Askers

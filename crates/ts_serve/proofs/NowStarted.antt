@@ -1,4 +1,4 @@
--- Guests that were started stay so, guest after guest.
+-- Handlers that were started stay so, handler after handler.
 use Rattle.std.proofs.Common.{◌≡◌, ℕ, ◌+◌, ◌-◌, ◌<◌, ◌≤◌, inl, inr, List, Bool, true, false, get_or, sym, ◌∙◌, subst, ⊎_elim, arith}
 use Rattle.std.specs.Prelude.{◌≢◌}
 use Rattle.std.proofs.lemmas.Bool.{cases_lt}
@@ -14,22 +14,22 @@ use Rattle.ts_thread.specs.declared.desk.Desk.{Desk}
 use Rattle.ts_thread.specs.Desks.{KeepsTokens}
 use Rattle.ts_thread.specs.News.{HasPlaceAt, KeepsPlaces}
 use Rattle.ts_thread.specs.Tokens.{Stays}
-use Rattle.ts_serve.specs.declared.booking.Booking.{Booking}
-use Rattle.ts_serve.specs.declared.booking.Booking.TheVariants.{Free, Client}
+use Rattle.ts_serve.specs.declared.connection.Connection.{Connection}
+use Rattle.ts_serve.specs.declared.connection.Connection.TheVariants.{Free, Accepted}
 use Rattle.ts_serve.specs.declared.place.Place.{Place}
 use Rattle.ts_serve.specs.Starting.{OthersStay, RestStays, IsNowStarted, IsStartedAt, WereStartedAt}
 
--- no guest is started now whose booking is what it was
-pub none_now : (k : ℕ) (old new : List Booking) → get_or new k Free ≡ get_or old k Free → IsNowStarted k old new
+-- no handler is started now whose connection is what it was
+pub none_now : (k : ℕ) (old new : List Connection) → get_or new k Free ≡ get_or old k Free → IsNowStarted k old new
     → ⊥
 none_now k old new same now =
     two_sides now.number now.number now.has_origin now.has_origin (sym now.was ∙ sym same ∙ now.is)
   where
-    two_sides : (n m : ℕ) (a b : Bool) → Client n a false ≡ Client m b true → ⊥
+    two_sides : (n m : ℕ) (a b : Bool) → Accepted n a false ≡ Accepted m b true → ⊥
     two_sides n m a b is = absurd (cc)
 
--- the bookings behind the next place stay, where that alone changes
-pub rest_on : (k : ℕ) (old mid new : List Booking) → RestStays k old mid → OthersStay k mid new
+-- the connections behind the next place stay, where that alone changes
+pub rest_on : (k : ℕ) (old mid new : List Connection) → RestStays k old mid → OthersStay k mid new
     → RestStays (k + 1) old new
 rest_on k old mid new rest others j behind =
     let apart : j ≢ k = λ is. absurd (omega arith) in
@@ -55,12 +55,12 @@ module _ {X G T : Type 0} {d : Ghosts X G T} where
     keeps.put (record { group = k; number = p.number }) put.2,
   )
 
--- a desk of a thread of the room
-abbrev RoomDesk : (W A P V Q R U : Type 0)
+-- a desk of a thread of the server
+abbrev ServerDesk : (W A P V Q R U : Type 0)
     → Ghosts (Group (Either (Place W) P) Q R (EitherTag A V) U) (EitherTag A V)
     (Group (Either (Place W) P) Q R (EitherTag A V) U)
     → Type 0
-RoomDesk W A P V Q R U d =
+ServerDesk W A P V Q R U d =
     Desk (Group (Either (Place W) P) Q R (EitherTag A V) U) (EitherTag A V)
     (Group (Either (Place W) P) Q R (EitherTag A V) U) d
 
@@ -71,7 +71,7 @@ module _ {W T A P V Q R U : Type 0}
     (Sound : W → State → List Named → Type 0) (Other : V → P → Type 0) (OtherBegun : P → P → Type 0)
     (SoundOther : P → State → List Named → Type 0) (is_first : V → Bool) (tags : List (EitherTag A V)) where
   -- who was started was started, as long as nothing is forgotten and no token is lost
-  started_on : (k most : ℕ) (old new : RoomDesk W A P V Q R U d) → KeepsTokens old new most
+  started_on : (k most : ℕ) (old new : ServerDesk W A P V Q R U d) → KeepsTokens old new most
       → IsStartedAt Fits Keeps Begun Sound Other OtherBegun SoundOther is_first tags k old
       → IsStartedAt Fits Keeps Begun Sound Other OtherBegun SoundOther is_first tags k new
   started_on k most old new keeps at = record {
@@ -95,8 +95,8 @@ module _ {W T A P V Q R U : Type 0}
     };
   }
 
-  -- one guest more
-  pub one_more_started : (k most : ℕ) (row mid new : List Booking) (desk next : RoomDesk W A P V Q R U d)
+  -- one handler more
+  pub one_more_started : (k most : ℕ) (row mid new : List Connection) (desk next : ServerDesk W A P V Q R U d)
       → KeepsTokens desk next most → RestStays k row mid → OthersStay k mid new
       → WereStartedAt Fits Keeps Begun Sound Other OtherBegun SoundOther is_first tags k row mid desk
       → (IsNowStarted k mid new
@@ -125,7 +125,7 @@ module _ {W T A P V Q R U : Type 0}
       (cases_lt j k)
 
   -- nobody behind them is started now
-  pub no_more_started : (k places : ℕ) (row new : List Booking) (desk : RoomDesk W A P V Q R U d) → RestStays k row new
+  pub no_more_started : (k places : ℕ) (row new : List Connection) (desk : ServerDesk W A P V Q R U d) → RestStays k row new
       → WereStartedAt Fits Keeps Begun Sound Other OtherBegun SoundOther is_first tags k row new desk
       → WereStartedAt Fits Keeps Begun Sound Other OtherBegun SoundOther is_first tags places row new desk
   no_more_started k places row new desk rest were j low now =

@@ -1,4 +1,4 @@
--- What serving a net comes to, from the room as it is opened to the books and the account at the end.
+-- What serving a net comes to, from the server as it is opened to the balance and the account at the end.
 use Rattle.std.proofs.Common.{◌≡◌, ℕ, ◌≤◌, ◌⊎◌, inl, inr, Bool, true, List, [], replicate, length, refl, sym, ap, ◌∙◌, subst, arith}
 use Rattle.std.proofs.lemmas.List.{length-replicate}
 use Rattle.std.proofs.lemmas.List.Elements.{All-nil}
@@ -18,18 +18,18 @@ use Rattle.ts_thread.specs.Threads.{CanSplit}
 use Rattle.ts_thread.specs.declared.TheConstants.{MOST_THREADS}
 use Rattle.ts_txn.specs.Net.{IsFreshNet, NetSeen}
 use Rattle.ts_txn.specs.declared.retired.Retired.{Retired}
-use Rattle.ts_serve.specs.declared.booking.Booking.{Booking}
-use Rattle.ts_serve.specs.declared.booking.Booking.TheVariants.{Free}
-use Rattle.ts_serve.specs.declared.door.Door.{Door}
-use Rattle.ts_serve.specs.declared.door.Listening.{Listening}
-use Rattle.ts_serve.specs.declared.door.Listening.TheVariants as listening
-use Rattle.ts_serve.specs.declared.door.Served.TheVariants as served
-use Rattle.ts_serve.specs.declared.door.TheConstants.{PLACES}
-use Rattle.ts_serve.specs.Books.{Books, HasAll, HasNoMore, KeepsBooks}
-use Rattle.ts_serve.specs.Door.{HasShutCause, IsAccount, IsDoorOf, IsNotAsked, IsOver, KeepsDoor, LosesNobody}
-use Rattle.ts_serve.specs.Opening.{IsNewDoor, IsNewRoom}
+use Rattle.ts_serve.specs.declared.connection.Connection.{Connection}
+use Rattle.ts_serve.specs.declared.connection.Connection.TheVariants.{Free}
+use Rattle.ts_serve.specs.declared.acceptor.Acceptor.{Acceptor}
+use Rattle.ts_serve.specs.declared.acceptor.Listening.{Listening}
+use Rattle.ts_serve.specs.declared.acceptor.Listening.TheVariants as listening
+use Rattle.ts_serve.specs.declared.acceptor.Served.TheVariants as served
+use Rattle.ts_serve.specs.declared.acceptor.TheConstants.{PLACES}
+use Rattle.ts_serve.specs.Balance.{IsBalanced, HasAll, HasNoMore, KeepsBalance}
+use Rattle.ts_serve.specs.Acceptor.{HasShutCause, IsAccount, IsAcceptorOf, IsNotAsked, IsOver, KeepsAcceptor, LosesNobody}
+use Rattle.ts_serve.specs.Opening.{IsNewAcceptor, IsNewServer}
 use Rattle.ts_serve.specs.Served.{AreRetired, HasEndedFor, HasNotFailed, IsNotClosed, IsServed, served_by}
-use Rattle.ts_serve.proofs.Books.{all_fresh, books_fresh, no_more_fresh}
+use Rattle.ts_serve.proofs.Balance.{all_fresh, balance_fresh, no_more_fresh}
 
 -- what can be split among the most threads can be split among fewer
 pub splits_few : {X G T : Type 0} {d : Ghosts X G T} (threads : ℕ) (seat : Seat X G T d) (pass : QueuePass)
@@ -46,13 +46,13 @@ splits_few threads seat pass few splits =
       pass_free = omega (arith, few, pass_free);
     }
 
--- the first seat and the first pass make the desk of a new room
-pub new_room : {X G T : Type 0} {d : Ghosts X G T} (tags gs : List G) (known : List (ℕ × ℕ × T))
+-- the first seat and the first pass make the desk of a new server
+pub new_server : {X G T : Type 0} {d : Ghosts X G T} (tags gs : List G) (known : List (ℕ × ℕ × T))
     (slots : Slots X G T) (queue : EventQueue) (seat : Seat X G T d) (pass : QueuePass) (desk : Desk X G T d)
     → tags_of slots ≡ tags → IsSeatOf slots seat → view seat ≡ opener gs known → IsPassOf queue pass
     → pass_view pass ≡ first_view → desk.seat ≡ seat → desk.pass ≡ pass → desk.wheel ≡ []
-    → IsNewRoom tags (record { slots = slots; queue = queue; desk = desk })
-new_room tags gs known slots queue seat pass desk are of_slots first of_queue start seat_is pass_is wheel =
+    → IsNewServer tags (record { slots = slots; queue = queue; desk = desk })
+new_server tags gs known slots queue seat pass desk are of_slots first of_queue start seat_is pass_is wheel =
     let seen = ap (λ s. view s) seat_is ∙ first in
     let share : (view desk.seat).share ≡ whole_share = ap (λ v. v.share) seen in
     let from : (view desk.seat).free_from ≡ 1 = ap (λ v. v.free_from) seen in
@@ -79,10 +79,10 @@ new_room tags gs known slots queue seat pass desk are of_slots first of_queue st
     }
 
 module _ {C O : Type 0} where
-  -- a new door is that of a net that gave no client
-  pub door_first : (most : ℕ) (door : Door) (net : NetSeen C O) → IsNewDoor most door → IsFreshNet net
-      → IsDoorOf door net
-  door_first most door net new fresh =
+  -- a new acceptor is that of a net that gave no client
+  pub acceptor_first : (most : ℕ) (acceptor : Acceptor) (net : NetSeen C O) → IsNewAcceptor most acceptor → IsFreshNet net
+      → IsAcceptorOf acceptor net
+  acceptor_first most acceptor net new fresh =
       let next = new.next in
       record {
         row = ap length new.row ∙ length-replicate PLACES Free;
@@ -92,9 +92,9 @@ module _ {C O : Type 0} where
       }
 
   -- with its first account
-  pub account_first : (most : ℕ) (door : Door) (net : NetSeen C O) → IsNewDoor most door
-      → IsAccount net.counts door net
-  account_first most door net new =
+  pub account_first : (most : ℕ) (acceptor : Acceptor) (net : NetSeen C O) → IsNewAcceptor most acceptor
+      → IsAccount net.counts acceptor net
+  account_first most acceptor net new =
       let came = new.came in
       record {
         few = omega (arith, came);
@@ -102,25 +102,25 @@ module _ {C O : Type 0} where
             (record { ends = refl; faults = refl });
       }
 
-  -- and its first books
-  pub books_first : (Done : Retired C O → Type 0) (most : ℕ) (door : Door) (net : NetSeen C O)
-      → IsNewDoor most door → IsFreshNet net → Books Done net.counts.misdials door.row.items net
-  books_first Done most door net new fresh =
-      subst (λ row. Books Done net.counts.misdials row net) (sym new.row)
-      (books_fresh Done net.counts.misdials PLACES net fresh refl)
+  -- and its first balance
+  pub balance_first : (Done : Retired C O → Type 0) (most : ℕ) (acceptor : Acceptor) (net : NetSeen C O)
+      → IsNewAcceptor most acceptor → IsFreshNet net → IsBalanced Done net.counts.misdials acceptor.row.items net
+  balance_first Done most acceptor net new fresh =
+      subst (λ row. IsBalanced Done net.counts.misdials row net) (sym new.row)
+      (balance_fresh Done net.counts.misdials PLACES net fresh refl)
 
-  pub all_first : (most : ℕ) (door : Door) (net : NetSeen C O) → IsNewDoor most door → IsFreshNet net
-      → HasAll door.row.items net
-  all_first most door net new fresh =
+  pub all_first : (most : ℕ) (acceptor : Acceptor) (net : NetSeen C O) → IsNewAcceptor most acceptor → IsFreshNet net
+      → HasAll acceptor.row.items net
+  all_first most acceptor net new fresh =
       subst (λ row. HasAll row net) (sym new.row) (all_fresh PLACES net fresh)
 
-  -- what the books say of what was handed over, whatever is still booked
-  pub retired_of : (Done : Retired C O → Type 0) (row : List Booking) (old new : NetSeen C O)
-      → Books Done old.counts.misdials row new → AreRetired Done old new
-  retired_of Done row old new books = record {
-    each = books.each;
-    once = λ x. let was = books.once x in omega (arith, was);
-    dialed = elim books.dialed [ inl few ↦ inl (omega (arith, few)) | inr end ↦ inr end ];
+  -- what the balance say of what was handed over, whatever is still in the row
+  pub retired_of : (Done : Retired C O → Type 0) (row : List Connection) (old new : NetSeen C O)
+      → IsBalanced Done old.counts.misdials row new → AreRetired Done old new
+  retired_of Done row old new balance = record {
+    each = balance.each;
+    once = λ x. let was = balance.once x in omega (arith, was);
+    dialed = elim balance.dialed [ inl few ↦ inl (omega (arith, few)) | inr end ↦ inr end ];
   }
 
   -- nothing was done
@@ -128,7 +128,7 @@ module _ {C O : Type 0} where
       → AreRetired Done net net
   retired_none Done net fresh =
       retired_of Done (replicate PLACES Free) net net
-      (books_fresh Done net.counts.misdials PLACES net fresh refl)
+      (balance_fresh Done net.counts.misdials PLACES net fresh refl)
 
   pub served_none : (most : ℕ) (net : NetSeen C O) → IsFreshNet net → IsServed served.NoMemory most net net
   served_none most net fresh =
@@ -143,7 +143,7 @@ module _ {C O : Type 0} where
   shut_by listening.Closed old new cause = inl cause.faults
   shut_by listening.Failed old new cause = inr cause.ends
 
-  -- the cause for which nobody more is let in, once nobody is booked, is that for which serving ended
+  -- the cause for which nobody more is let in, once nobody is in the row, is that for which serving ended
   ended_for : (l : Listening) (most came : ℕ) (old new : NetSeen C O) → came ≡ new.given → came ≤ most
       → (l ≡ listening.Open → most ≤ came) → new.handed ≡ new.given → HasShutCause l old.counts new.counts
       → HasEndedFor (served_by l) most old new
@@ -152,68 +152,68 @@ module _ {C O : Type 0} where
   ended_for listening.Closed most came old new is few shut all cause = (all, cause.faults, inr cause.ends)
   ended_for listening.Failed most came old new is few shut all cause = (all, cause.ends, cause.faults)
 
-  pub served_whole : (most : ℕ) (door : Door) (old new : NetSeen C O) → door.most ≡ most
-      → IsDoorOf door new → IsAccount old.counts door new → IsOver door → HasAll door.row.items new
-      → IsServed (served_by door.listening) most old new
-  served_whole most door old new most_is is account over all =
+  pub served_whole : (most : ℕ) (acceptor : Acceptor) (old new : NetSeen C O) → acceptor.most ≡ most
+      → IsAcceptorOf acceptor new → IsAccount old.counts acceptor new → IsOver acceptor → HasAll acceptor.row.items new
+      → IsServed (served_by acceptor.listening) most old new
+  served_whole most acceptor old new most_is is account over all =
       let came = is.came in
       let low = account.few in
       let nobody = over.nobody in
-      let few : door.came ≤ most = omega (arith, most_is, low) in
+      let few : acceptor.came ≤ most = omega (arith, most_is, low) in
       let no_more = is.no_more in
       record {
         few = omega (arith, came, few);
         no_more = omega (arith, no_more);
-        shut = shut_by door.listening old new account.cause;
-        ended = ended_for door.listening most door.came old new came few
+        shut = shut_by acceptor.listening old new account.cause;
+        ended = ended_for acceptor.listening most acceptor.came old new came few
             (λ still. let more = over.shut still in omega (arith, most_is, more)) (omega (arith, all, nobody))
             account.cause;
       }
 
   -- where memory lacked, no more clients came than were to, and no more were handed over
-  pub served_few : (most : ℕ) (door : Door) (again : List Booking) (old now new : NetSeen C O)
-      → door.most ≡ most → IsDoorOf door now → IsAccount old.counts door now → IsNotAsked now new
+  pub served_few : (most : ℕ) (acceptor : Acceptor) (again : List Connection) (old now new : NetSeen C O)
+      → acceptor.most ≡ most → IsAcceptorOf acceptor now → IsAccount old.counts acceptor now → IsNotAsked now new
       → HasNoMore again new → IsServed served.NoMemory most old new
-  served_few most door again old now new most_is is account same no_more =
+  served_few most acceptor again old now new most_is is account same no_more =
       let came = is.came in
       let low = account.few in
       let given = same.given in
       record {
         few = omega (arith, most_is, came, low, given);
         no_more = omega (arith, no_more);
-        shut = shut_by door.listening old new
-            (subst (λ counts. HasShutCause door.listening old.counts counts) (sym same.counts) account.cause);
+        shut = shut_by acceptor.listening old new
+            (subst (λ counts. HasShutCause acceptor.listening old.counts counts) (sym same.counts) account.cause);
         ended = tt;
       }
 
--- What the threads leave of a new door and of a fresh net.
+-- What the threads leave of a new acceptor and of a fresh net.
 module _ {C O A : Type 0} (tells : Bool) (Done : A → Retired C O → Type 0) (Are : A → Type 0) (most : ℕ)
-    (first last : Door) (old now : NetSeen C O) (new : IsNewDoor most first) (fresh : IsFreshNet old)
-    (keeps : KeepsDoor tells Done Are first last old now) where
-  -- the books at the end
-  books_now : tells ≡ true → (terms : A) → Are terms → Books (Done terms) old.counts.misdials last.row.items now
-  books_now telling terms are = keeps.books telling terms old.counts.misdials are
-      (books_first (Done terms) most first old new fresh)
+    (first last : Acceptor) (old now : NetSeen C O) (new : IsNewAcceptor most first) (fresh : IsFreshNet old)
+    (keeps : KeepsAcceptor tells Done Are first last old now) where
+  -- the balance at the end
+  books_now : tells ≡ true → (terms : A) → Are terms → IsBalanced (Done terms) old.counts.misdials last.row.items now
+  books_now telling terms are = keeps.balance telling terms old.counts.misdials are
+      (balance_first (Done terms) most first old new fresh)
 
   pub whole_retired : tells ≡ true → (terms : A) → Are terms → AreRetired (Done terms) old now
   whole_retired telling terms are =
       retired_of (Done terms) last.row.items old now (books_now telling terms are)
 
-  pub whole_served : IsDoorOf last now → IsOver last → LosesNobody first last old now
+  pub whole_served : IsAcceptorOf last now → IsOver last → LosesNobody first last old now
       → IsServed (served_by last.listening) most old now
   whole_served is over loses = served_whole most last old now (keeps.most ∙ new.most_is) is
       (keeps.account old.counts (account_first most first old new)) over
       (loses (all_first most first old new fresh))
 
-  -- and where memory lacked, once the room is closed
-  pub lacked_retired : (again : List Booking) (after : NetSeen C O)
-      → KeepsBooks tells Done Are last.row.items now again after → tells ≡ true → (terms : A) → Are terms
+  -- and where memory lacked, once the server is closed
+  pub lacked_retired : (again : List Connection) (after : NetSeen C O)
+      → KeepsBalance tells Done Are last.row.items now again after → tells ≡ true → (terms : A) → Are terms
       → AreRetired (Done terms) old after
-  lacked_retired again after books telling terms are =
+  lacked_retired again after balance telling terms are =
       retired_of (Done terms) again old after
-      (books telling terms are old.counts.misdials (books_now telling terms are))
+      (balance telling terms are old.counts.misdials (books_now telling terms are))
 
-  pub lacked_served : (again : List Booking) (after : NetSeen C O) → IsDoorOf last now
+  pub lacked_served : (again : List Connection) (after : NetSeen C O) → IsAcceptorOf last now
       → IsNotAsked now after → (HasNoMore last.row.items now → HasNoMore again after)
       → IsServed served.NoMemory most old after
   lacked_served again after is same on = served_few most last again old now after (keeps.most ∙ new.most_is)

@@ -1,12 +1,12 @@
--- Who comes to the door, and what the net then gave and counted.
+-- Who comes to the acceptor, and what the net then gave and counted.
 use Rattle.std.specs.Prelude.{◌≡◌, ℕ, ◌+◌, ⊤, Bool, true, false, Option, IfSome}
 use Rattle.ts_link.specs.Counts.{Counted}
 use Rattle.ts_link.specs.declared.link.Link as link
 use Rattle.ts_upstream.specs.declared.upstream.Upstream as upstream
 use Rattle.ts_txn.specs.Making.{IsNewLink}
 use Rattle.ts_txn.specs.Net.{IsHandedNothing, IsNextOrigin, NetSeen}
-use Rattle.ts_serve.specs.declared.receiving.Arrival.{Arrival}
-use Rattle.ts_serve.specs.declared.receiving.Arrival.TheVariants as arrival
+use Rattle.ts_serve.specs.declared.arrival.Arrival.{Arrival}
+use Rattle.ts_serve.specs.declared.arrival.Arrival.TheVariants as arrival
 
 -- how many clients a net gave, once one came or none
 abbrev pub given_after : {C O : Type 0} → ℕ → Arrival C O → ℕ

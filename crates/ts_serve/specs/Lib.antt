@@ -1,14 +1,14 @@
--- The definitions that the contracts of the room of a net cite.
-pub mod Entering
+-- The definitions that the contracts of the server of a net cite.
 pub mod Places
-pub mod Guests
+pub mod Tenants
 pub mod Arrivals
-pub mod Books
-pub mod Door
-pub mod Helping
-pub mod Rooms
+pub mod Balance
+pub mod Acceptor
+pub mod Working
+pub mod Servers
 pub mod Opening
 pub mod Leftover
 pub mod Served
-pub mod Transactions
+pub mod Exchanges
 pub mod Starting
+pub mod Limits

@@ -4,11 +4,11 @@ use Rattle.std.specs.List.{sum_by}
 use Rattle.ts_link.specs.Counts.{Rose, greatest}
 use Rattle.ts_txn.specs.Net.{NetSeen}
 use Rattle.ts_txn.specs.declared.retired.Retired.{Retired}
-use Rattle.ts_serve.specs.declared.door.Served.{Served}
-use Rattle.ts_serve.specs.declared.door.Served.TheVariants as served
-use Rattle.ts_serve.specs.declared.door.Listening.{Listening}
-use Rattle.ts_serve.specs.declared.door.Listening.TheVariants as listening
-use Rattle.ts_serve.specs.Books.{had_number, is_given, lacked_origin}
+use Rattle.ts_serve.specs.declared.acceptor.Served.{Served}
+use Rattle.ts_serve.specs.declared.acceptor.Served.TheVariants as served
+use Rattle.ts_serve.specs.declared.acceptor.Listening.{Listening}
+use Rattle.ts_serve.specs.declared.acceptor.Listening.TheVariants as listening
+use Rattle.ts_serve.specs.Balance.{had_number, is_given, lacked_origin}
 
 -- how serving ended where the threads did what they were to, by whether the net gives more clients
 abbrev pub served_by : Listening → Served

@@ -1,4 +1,4 @@
--- The guests that are started in their places: what is booked of them, and what stands behind that.
+-- The handlers that are started in their places: what is in the row of them, and what stands behind that.
 use Rattle.std.specs.Prelude.{◌≡◌, ◌≢◌, ℕ, ◌<◌, ◌≤◌, List, Bool, true, false, get_or}
 use Rattle.ts_journal.specs.declared.entry.TheConstants.{GREATEST}
 use Rattle.ts_journal.specs.declared.slotted.Slotted.{Ghosts}
@@ -12,25 +12,25 @@ use Rattle.ts_slot.specs.Words.{view}
 use Rattle.ts_thread.specs.declared.desk.Desk.{Desk}
 use Rattle.ts_thread.specs.News.{HasPlaceAt}
 use Rattle.ts_thread.specs.Started.{IsFirst, Started}
-use Rattle.ts_serve.specs.declared.booking.Booking.{Booking}
-use Rattle.ts_serve.specs.declared.booking.Booking.TheVariants.{Free, Client}
+use Rattle.ts_serve.specs.declared.connection.Connection.{Connection}
+use Rattle.ts_serve.specs.declared.connection.Connection.TheVariants.{Free, Accepted}
 use Rattle.ts_serve.specs.declared.place.Place.{Place}
 use Rattle.ts_serve.specs.Places.{PlaceFits, PlaceSound, PlaceBegun}
 
--- the bookings of other places are what they were
-abbrev pub OthersStay : ℕ → List Booking → List Booking → Type 0
+-- the connections of other places are what they were
+abbrev pub OthersStay : ℕ → List Connection → List Connection → Type 0
 OthersStay k old new = (j : ℕ) → j ≢ k → get_or new j Free ≡ get_or old j Free
 
--- the bookings of the places from the k-th on are what they were
-abbrev pub RestStays : ℕ → List Booking → List Booking → Type 0
+-- the connections of the places from the k-th on are what they were
+abbrev pub RestStays : ℕ → List Connection → List Connection → Type 0
 RestStays k old new = (j : ℕ) → k ≤ j → get_or new j Free ≡ get_or old j Free
 
--- The guest of the place k is booked as one that was started, and had been booked as one that was not.
-pub record IsNowStarted (k : ℕ) (old new : List Booking) : Type 0 where
+-- The handler of the place k is in the row as one that was started, and had been in the row as one that was not.
+pub record IsNowStarted (k : ℕ) (old new : List Connection) : Type 0 where
   pub number : ℕ
   pub has_origin : Bool
-  pub was : get_or old k Free ≡ Client number has_origin false
-  pub is : get_or new k Free ≡ Client number has_origin true
+  pub was : get_or old k Free ≡ Accepted number has_origin false
+  pub is : get_or new k Free ≡ Accepted number has_origin true
 
 module _ {W T A P V Q R U : Type 0}
     {d : Ghosts (Group (Either (Place W) P) Q R (EitherTag A V) U) (EitherTag A V)
@@ -48,8 +48,8 @@ module _ {W T A P V Q R U : Type 0}
       (IsFirst (tag_of (λ terms. false) is_first) tags) (OfBoth (PlaceBegun Begun) OtherBegun)
       (EitherSound (PlaceSound Sound) SoundOther) (HasPlaceAt GREATEST desk) (view desk.seat).known k
 
-  -- each of so many guests that is booked as started now was started
-  abbrev pub WereStartedAt : ℕ → List Booking → List Booking
+  -- each of so many handlers that is in the row as started now was started
+  abbrev pub WereStartedAt : ℕ → List Connection → List Connection
       → Desk (Group (Either (Place W) P) Q R (EitherTag A V) U) (EitherTag A V)
       (Group (Either (Place W) P) Q R (EitherTag A V) U) d → Type 0
   WereStartedAt places old new desk = (k : ℕ) → k < places → IsNowStarted k old new → IsStartedAt k desk

@@ -6,7 +6,7 @@ ghost use Rattle.ts_thread.specs.Goings.{IsIdle};
 ghost use Rattle.ts_thread.specs.Tags.{CanAsk, GroupsFit};
 ghost use Rattle.ts_serve.specs.Leftover.{HasHandled, StayFit};
 
-use crate::helping::PAUSE;
+use crate::worker::PAUSE;
 use std::sync::Wait;
 use ts_group::{Group, World};
 use ts_link::Clock;

@@ -1,33 +1,30 @@
-//! The room in which a net is served: places in mutex slots, in which guests live one after the other, and
-//! the books of the clients that came and of what is left of those that went.
+//! The server of a net: places in mutex slots, in which handlers of clients stand one after the other, the
+//! acceptor that gives them to clients, and the event threads that run them.
 #![tactic(auto)]
 
-mod accepting;
-mod booking;
-mod clearing;
-mod closing;
-mod door;
-mod door_net;
-mod entering;
-mod guest;
-mod helping;
-mod joining;
+mod accept;
+mod acceptor;
+mod arrival;
+mod clear;
+mod connection;
+mod exchanges;
+mod laws;
 mod leftover;
-mod letting;
-mod looking;
-mod opening;
 mod place;
-mod receiving;
-mod retiring;
-mod serving;
-mod starting;
-mod transaction;
-mod transactions;
-mod whole;
+mod retire;
+mod rounds;
+mod run;
+mod server;
+mod service;
+mod source;
+mod start;
+mod tenant;
+mod worker;
+mod workers;
 
-pub use door::{PLACES, Served};
-pub use guest::{Guest, Lodger};
-pub use opening::Beside;
-pub use transaction::{TxnSetting, TxnTerms};
-pub use transactions::serve_transactions;
-pub use whole::serve;
+pub use acceptor::{PLACES, Served};
+pub use exchanges::{TxnTerms, serve_transactions};
+pub use laws::are_limits;
+pub use run::serve;
+pub use service::Host;
+pub use tenant::{Handler, Tenant};

@@ -10,7 +10,7 @@ ghost use Rattle.ts_serve.specs.Places.{PlaceFits, PlaceSound, PlaceAsking, Plac
 ghost use Rattle.ts_serve.specs.Places.{PlaceAnswers, place_left, PlaceBegun, PlaceCalled, PlaceHeard};
 ghost use Rattle.ts_serve.specs.Places.{sound_on, left_on};
 
-use crate::guest::Lodger;
+use crate::tenant::Tenant;
 use ts_group::{Asked, Cx, Either, Group, MOST_SET, Want, World};
 use ts_journal::{Event, Slotted};
 
@@ -25,7 +25,7 @@ pub enum Place<W> {
 pub type PlaceGroup<W, P> = Group<Either<Place<W>, P>>;
 
 /// Whoever lives in it fits a tag of its own, which keeps the terms of the place.
-impl<W: Lodger> Slotted for Place<W> {
+impl<W: Tenant> Slotted for Place<W> {
     type Tag = W::Terms;
 
     type Trace = ();
@@ -48,7 +48,7 @@ impl<W: Lodger> Slotted for Place<W> {
 /// It is the world that lives in it. In an empty place nothing is pending, and no call of a world empties
 /// one.
 #[tactic(auto, using(ts_group::proofs::Grows::grows_refl))]
-impl<W: Lodger + Drop> World for Place<W> {
+impl<W: Tenant + Drop> World for Place<W> {
     type Question = W::Question;
 
     type Reply = W::Reply;

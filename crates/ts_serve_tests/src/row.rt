@@ -1,6 +1,10 @@
 //! Rows: a net, how it is served by transactions, and whether what comes of it is as it is stated.
 ghost use Rattle.std.specs.Prelude.{IfOk};
-ghost use Rattle.ts_serve.specs.declared.door.TheConstants.{PLACES};
+ghost use Rattle.std.specs.List.{All};
+ghost use Rattle.ts_block.specs.Sent.{HasPlainRules};
+ghost use Rattle.ts_config.specs.Rules.{HasPlainRule};
+ghost use Rattle.ts_plugin.specs.Lines.{AreOrdered};
+ghost use Rattle.ts_serve.specs.declared.acceptor.TheConstants.{PLACES};
 ghost use Rattle.ts_txn.specs.MemNet.{seen_of};
 ghost use Rattle.ts_txn.specs.Net.{IsFreshNet};
 ghost use Rattle.ts_txn.specs.Making.{IsTxnSetup};
@@ -13,8 +17,8 @@ use std::alloc::Global;
 use std::sync::{Arc, Wait};
 use std::thread::Threads;
 use ts_config::{Setup, read_config};
-use ts_link::{Gate, OpenGate, StepClock};
-use ts_serve::{Served, serve_transactions};
+use ts_link::{Gate, NoMemory, OpenGate, StepClock};
+use ts_serve::{Host, Served, serve_transactions};
 use ts_stock::Stock;
 use ts_txn::{MOST_PLUGINS, MemNet};
 
@@ -58,11 +62,23 @@ pub fn net_of_row(alloc: Global, row: &Row<'_>) -> Result<MemNet, Refusal>
     Ok(net)
 }
 
+// These lines, with those of hook plugins in the order in which they act.
+#[tactic(auto, using(crate::proofs::Ordered::plain_in_order, crate::proofs::Ordered::ordered_in_order))]
+fn in_order(alloc: Global, read: Setup) -> Result<Setup, NoMemory>
+    requires { All HasPlainRule read.plugins.items }
+    ensures plain { IfOk result HasPlainRules }
+    ensures ordered { IfOk result (λ s. AreOrdered s.plugins.items) }
+{
+    let setup = read.ordered(alloc, true)?;
+    Ok(setup)
+}
+
 // The setup of a configuration.
 fn setup_of(alloc: Global, lines: &[u8]) -> Result<Setup, Refusal>
     ensures { IfOk result (λ s. IsTxnSetup s PLACES) }
 {
-    let setup = read_config(alloc, lines)?;
+    let read = read_config(alloc, lines)?;
+    let setup = in_order(alloc, read)?;
     if setup.transforms.len() > MOST_LINES || setup.plugins.len() > MOST_PLUGINS as usize {
         return Err(Refusal::Lines);
     }
@@ -86,9 +102,13 @@ pub fn serve_net<R: Threads + Wait + Sync, G: Gate + Sync>(
     }
     let setup = Arc::new(alloc, setup_of(alloc, lines)?)?;
     let clock = StepClock::make(0);
-    Ok(serve_transactions::<MemNet, Stock, G, StepClock, R>(
-        rt, alloc, setup, threads, most, gate, &clock, net,
-    ))
+    let host = Host {
+        rt,
+        alloc,
+        gate,
+        clock: &clock,
+    };
+    Ok(serve_transactions::<MemNet, Stock, G, StepClock, R>(&host, setup, threads, most, net))
 }
 
 /// What came of serving a net: what is stated, or another end or finding.

@@ -1,13 +1,13 @@
 //! A net in memory that keeps the texts with which it is begun, fails where it is asked for a client before
 //! that, and may lack memory for what it is handed first.
-ghost use Rattle.std.specs.Prelude.{◌≡◌, true, OnOk, OnErr};
-ghost use Rattle.ts_serving_tests.specs.Keeping.{seen_with};
+ghost use Rattle.std.specs.Prelude.{◌≡◌, true, IfOk, OnOk, OnErr};
+ghost use Rattle.ts_serving_tests.specs.Keeping.{AreTexts, KeepsTexts, seen_with};
 ghost use Rattle.ts_txn.specs.MemNet.{seen_of};
-ghost use Rattle.ts_txn.specs.Net.{IsFreshNet, IsHanded};
+ghost use Rattle.ts_txn.specs.Net.{IsFreshNet, IsHanded, IsNoted};
 
 use std::alloc::Global;
 use ts_link::{MemLink, NoMemory};
-use ts_txn::{Accepted, Began, Dialed, MemNet, Net, NetCounts, Retired};
+use ts_txn::{Accepted, Began, Dialed, MemNet, Net, NetCounts, Noted, Retired};
 
 // The texts with which a net is begun: where it listens, and where its origins are.
 #[derive(Drop)]
@@ -69,7 +69,9 @@ impl KeepingNet {
 }
 
 // The texts with which a net is begun, kept.
-fn addresses_of(alloc: Global, listen: &str, origin: &str) -> Result<Addresses, NoMemory> {
+fn addresses_of(alloc: Global, listen: &str, origin: &str) -> Result<Addresses, NoMemory>
+    ensures { IfOk result (AreTexts listen.now origin.now) }
+{
     Ok(Addresses {
         listen: String::from_str(alloc, listen)?,
         origin: String::from_str(alloc, origin)?,
@@ -85,6 +87,8 @@ impl Net for KeepingNet {
 
     ghost seen = { λ net. seen_with net.inner net.counts };
 
+    ghost begins = { KeepsTexts };
+
     fn begin(&mut self, listen: &str, origin: &str) -> Began {
         match addresses_of(self.alloc, listen, origin) {
             Ok(addresses) => {
@@ -93,6 +97,10 @@ impl Net for KeepingNet {
             }
             Err(NoMemory) => Began::NoMemory,
         }
+    }
+
+    fn wait(&mut self, most: u64, ready: &mut Vec<u64>) {
+        self.inner.wait(most, ready);
     }
 
     fn accept(&mut self) -> Accepted<MemLink> {
@@ -130,5 +138,14 @@ impl Net for KeepingNet {
             return Err(NoMemory);
         }
         self.inner.retire(retired)
+    }
+
+    fn note(&mut self, noted: Noted<MemLink>) -> Result<(), NoMemory>
+        ensures ok { OnOk result (IsNoted true noted
+            (seen_with self.old.inner self.old.counts) (seen_with self.new.inner self.new.counts)) }
+        ensures err { OnErr result
+            (seen_with self.new.inner self.new.counts ≡ seen_with self.old.inner self.old.counts) }
+    {
+        self.inner.note(noted)
     }
 }

@@ -1,10 +1,6 @@
 //! The texts that the program reads, writes and says in these rows, as they are stated.
 
-/// How the program says that words are of no command.
-pub const USAGE: &[u8] =
-    b"tsx: usage: transform CONFIG BODY | replay [--threads N] CONFIG RECORDING | serve --listen L --origin A --config F [--threads N] [--connections N] | generate SEED COUNT SIZE\n";
-
-/// How it says that the net failed.
+/// How the program says that the net failed.
 pub const NETWORK: &[u8] = b"tsx: network\n";
 
 /// How it says that memory lacked.

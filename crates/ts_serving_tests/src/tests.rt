@@ -5,7 +5,5 @@ mod beginning;
 mod clients;
 mod crowds;
 mod faults;
-mod files;
 mod leftovers;
 mod memory;
-mod words;

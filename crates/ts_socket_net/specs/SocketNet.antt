@@ -27,6 +27,7 @@ use Rattle.ts_txn.specs.declared.net.Dialed.{Dialed}
 use Rattle.ts_txn.specs.declared.net.Dialed.TheVariants as D
 use Rattle.ts_txn.specs.declared.net.NetCounts.{NetCounts}
 use Rattle.ts_txn.specs.declared.retired.Retired.{Retired}
+use Rattle.ts_upstream.specs.Uploads.{MovesNothing}
 use Rattle.ts_upstream.specs.declared.upstream.Upstream as upstream
 
 -- a link over a socket, and what it shows as a link and as the link to an origin
@@ -34,19 +35,36 @@ abbrev pub Socket : Type 0
 Socket = StreamLink TcpStream
 
 abbrev pub socket_link : link.Ghosts Socket
-socket_link = record { tells = false; look = look_of; goes = λ before after. ⊤ }
+socket_link = record {
+  tells = false;
+  look = look_of;
+  goes = λ before after. ⊤;
+  still = λ before after. ⊤;
+}
 
 abbrev pub socket_origin : upstream.Ghosts Socket Socket
-socket_origin = record { paired = λ c o. ⊤; refuses = λ o list. ⊥; upload_left = λ c o. Some 0 }
+socket_origin = record {
+  paired = λ c o. ⊤;
+  refuses = λ o list. ⊥;
+  upload_left = λ c o. Some 0;
+  one_upload = MovesNothing;
+}
 
 -- how many clients came of a net that may have begun
 abbrev pub given_of : {R : Type 0} → Option (Opened R) → ℕ
 given_of None = 0
 given_of (Some o) = o.listener.given
 
--- it tells how many clients came, how many transactions it was handed, and its counts
+-- it tells how many clients came, how many transactions it was handed and noted, and its counts
 abbrev pub seen_of : {R C : Type 0} → SocketNet R C → NetSeen Socket Socket
-seen_of n = record { given = given_of n.opened; handed = n.handed; retired = []; counts = n.counts }
+seen_of n = record {
+  given = given_of n.opened;
+  handed = n.handed;
+  retired = [];
+  notes = n.notes;
+  noted = [];
+  counts = n.counts;
+}
 
 -- nothing came of a net yet
 abbrev pub no_counts : NetCounts
@@ -75,6 +93,10 @@ Begins listen origin B.Ready _ _ = ⊥
 Begins listen origin B.NoMemory old new = (old ≡ None) × (new ≡ None)
 Begins listen origin B.Failed None new = (new ≡ None) × CannotBegin listen origin
 Begins listen origin B.Failed (Some o) new = new ≡ Some o
+
+-- the same of a whole net
+abbrev pub BeginsOnce : {R C : Type 0} → List ℕ → List ℕ → Began → SocketNet R C → SocketNet R C → Type 0
+BeginsOnce listen origin answer old new = Begins listen origin answer old.opened new.opened
 
 -- what a net answers where this came to who listens
 abbrev pub accepted_of : Arrival TcpStream → Accepted Socket

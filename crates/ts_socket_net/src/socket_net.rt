@@ -1,17 +1,19 @@
 //! The net over the system's sockets.
-ghost use Rattle.std.specs.Prelude.{◌≡◌, false, None, OnOk, OnErr};
-ghost use Rattle.ts_socket_net.specs.SocketNet.{Accepts, AcceptsOne, Begins, Dials, DialsOnce, Gives};
+ghost use Rattle.std.specs.Prelude.{◌≡◌, ◌+◌, false, None, OnOk, OnErr};
+ghost use Rattle.ts_link.specs.Counts.{greatest};
+ghost use Rattle.ts_socket_net.specs.SocketNet.{Accepts, AcceptsOne, BeginsOnce, Dials, DialsOnce, Gives};
 ghost use Rattle.ts_socket_net.specs.SocketNet.{KeepsClient, TakesNone, TakesOne, no_counts, seen_of};
 ghost use Rattle.ts_socket_net.specs.SocketNet.{socket_link, socket_origin};
-ghost use Rattle.ts_txn.specs.Net.{CountsRise, GivesClient, GivesNobody, GivesOrigin, IsFreshNet, IsHanded};
-ghost use Rattle.ts_txn.specs.Net.{IsHandedNothing, raised_by_accept, raised_by_begin, raised_by_dial};
+ghost use Rattle.ts_txn.specs.Net.{AddsNames, CountsRise, GivesClient, GivesNobody, GivesOrigin, IsFreshNet};
+ghost use Rattle.ts_txn.specs.Net.{IsHanded, IsHandedNothing, IsNoted};
+ghost use Rattle.ts_txn.specs.Net.{raised_by_accept, raised_by_begin, raised_by_dial};
 
 use crate::opening::{OpenFault, Opened, open};
 use std::alloc::Global;
 use std::net;
 use ts_link::{Clock, NoMemory};
 use ts_net::{Arrival, Dialing, SocketLink, dial};
-use ts_txn::{Accepted, Began, Dialed, Net, NetCounts, Retired};
+use ts_txn::{Accepted, Began, Dialed, Net, NetCounts, Noted, Retired};
 
 /// Listens at one address and dials another, each with an address and a port as `127.0.0.1:8080`. It begins
 /// once. A client whose transaction is handed over lingers: what it still sends is read and passed over, so
@@ -23,6 +25,7 @@ pub struct SocketNet<'a, R, C> {
     clock: &'a C,
     opened: Option<Opened<'a, R>>,
     handed: u64,
+    notes: u64,
     counts: NetCounts,
 }
 
@@ -39,6 +42,7 @@ impl<'a, R, C> SocketNet<'a, R, C> {
             clock,
             opened: None,
             handed: 0,
+            notes: 0,
             counts: NetCounts {
                 faults: 0,
                 misdials: 0,
@@ -113,10 +117,12 @@ impl<'a, R: net::Net, C: Clock> Net for SocketNet<'a, R, C> {
 
     ghost seen = { seen_of };
 
+    ghost begins = { BeginsOnce };
+
     fn begin(&mut self, listen: &str, origin: &str) -> Began
         ensures nobody { GivesNobody (seen_of self.old) (seen_of self.new) }
         ensures counts { CountsRise (raised_by_begin result) (seen_of self.old) (seen_of self.new) }
-        ensures begins { Begins listen.now origin.now result self.old.opened self.new.opened }
+        ensures begins { BeginsOnce listen.now origin.now result self.old self.new }
     {
         if self.opened.is_some() {
             self.counts.faults = self.counts.faults.saturating_add(1);
@@ -133,6 +139,16 @@ impl<'a, R: net::Net, C: Clock> Net for SocketNet<'a, R, C> {
             }
             Err(OpenFault::NoMemory) => Began::NoMemory,
         }
+    }
+
+    // It knows of nobody who is ready, and does not wait.
+    fn wait(&mut self, _most: u64, ready: &mut Vec<u64>)
+        ensures seen { seen_of self.new ≡ seen_of self.old }
+        ensures adds { AddsNames ready.old.items ready.new.items }
+        ensures same { self.new ≡ self.old }
+        ensures nobody { ready.new ≡ ready.old }
+    {
+        let _ = ready.len();
     }
 
     fn accept(&mut self) -> Accepted<SocketLink>
@@ -183,6 +199,20 @@ impl<'a, R: net::Net, C: Clock> Net for SocketNet<'a, R, C> {
         if let Some(opened) = &mut self.opened {
             keep_client(opened, self.clock, retired.parts.client);
         }
+        Ok(())
+    }
+
+    // The origin's socket is closed.
+    fn note(&mut self, _noted: Noted<SocketLink>) -> Result<(), NoMemory>
+        ensures ok { OnOk result (IsNoted false _noted (seen_of self.old) (seen_of self.new)) }
+        ensures err { OnErr result (seen_of self.new ≡ seen_of self.old) }
+        ensures counts { OnOk result (self.new ≡ record self.old { notes = self.old.notes + 1 }) }
+        ensures none { OnErr result ((self.old.notes ≡ greatest) × (self.new ≡ self.old)) }
+    {
+        let Some(notes) = self.notes.checked_add(1) else {
+            return Err(NoMemory);
+        };
+        self.notes = notes;
         Ok(())
     }
 }

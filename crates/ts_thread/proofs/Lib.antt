@@ -5,6 +5,7 @@ mod Entries
 mod Groups
 pub mod Joins
 pub mod Known
+pub mod Again
 mod Moves
 mod Openings
 pub mod Rows

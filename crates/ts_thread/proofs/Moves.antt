@@ -26,7 +26,7 @@ use Rattle.ts_group.specs.Slot.{IsAtRest}
 use Rattle.ts_group.specs.Due.{IsDueFirst}
 use Rattle.ts_group.specs.Answers.{Holds, Falls, LeavesLess, KeepsTags, SetsAtMost, SetsQuestion, IsSameGroup}
 use Rattle.ts_group.proofs.Keeps.{falls_refl, falls_trans}
-use Rattle.ts_thread.specs.declared.ending.TheConstants.{MOST_TURNS}
+use Rattle.ts_thread.specs.declared.TheConstants.{MOST_TURNS}
 use Rattle.ts_thread.specs.declared.did.Unfinished.{Unfinished}
 use Rattle.ts_thread.specs.declared.did.Unfinished.TheVariants as unfinished
 use Rattle.ts_thread.specs.Tags.{GroupFits}

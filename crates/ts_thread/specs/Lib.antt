@@ -17,3 +17,4 @@ pub mod Tokens
 pub mod Turning
 pub mod Whole
 pub mod Ran
+pub mod Limits

@@ -1,5 +1,5 @@
 -- What is known of the groups that were started, from their first turns to the end.
-use Rattle.std.specs.Prelude.{◌≡◌, ℕ, ◌-◌, ◌<◌, ◌≤◌, List, Bool, Some, false}
+use Rattle.std.specs.Prelude.{⊤, ◌≡◌, ℕ, ◌-◌, ◌<◌, ◌≤◌, List, Bool, Some, false}
 use Rattle.std.specs.Bool.{OnTrue}
 use mathlib.Core.Option.{some}
 use lib.ListN.{get_elem?}
@@ -85,6 +85,14 @@ pub record Started {W T : Type 0} (Q R U : Type 0) (Fits : T → W → Type 0) (
   pub started : Group W Q R T U
   pub left : Group W Q R T U
   pub starts : Starts Fits First Begun Sound HasToken k turn found started left known
+
+-- A seat roused the group k in a turn that it had: its world brought events forward. Nothing is news in it
+-- then, and each event that the turn made pending has its token.
+abbrev pub Roused : {W T : Type 0} (Q R U : Type 0) → (T → W → Type 0) → (ℕ → ℕ → Type 0)
+    → (W → State → List Named → Type 0) → (ℕ → Pending → Type 0)
+    → List (ℕ × ℕ × Group W Q R T U) → ℕ → Type 0
+Roused {W} Q R U Fits First Sound HasToken known k =
+    Started Q R U Fits First (λ (old new : W). ⊤) Sound HasToken known k
 
 -- a seat started each of the first so many groups
 abbrev pub AllStarted : {W T : Type 0} (Q R U : Type 0) → (T → W → Type 0) → (ℕ → ℕ → Type 0)

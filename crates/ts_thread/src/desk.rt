@@ -150,12 +150,12 @@ pub fn is_shared(turn: u64) -> bool
 }
 
 /// Adds a token to the wheel, so that this thread goes on with its group. But a token that is due is put into
-/// the queue by a turn that is shared, and any thread takes it there, unless the pass has no serial left.
+/// the queue by a turn that hands over, and any thread takes it there, unless the pass has no serial left.
 pub fn place<V: Slotted, R: Wait>(
     rt: &R,
     queue: &EventQueue,
     desk: &mut Desk<V>,
-    shared: bool,
+    hands_over: bool,
     token: Token,
     due: u64,
     moment: u64,
@@ -164,10 +164,10 @@ pub fn place<V: Slotted, R: Wait>(
     ensures pass { IsPassOf queue.now desk.new.pass }
     ensures empties { empties_of desk.new.pass ≡ empties_of desk.old.pass }
     ensures seat { desk.new.seat ≡ desk.old.seat }
-    ensures ok { OnOk result (Places shared token due moment desk.old desk.new) }
+    ensures ok { OnOk result (Places hands_over token due moment desk.old desk.new) }
     ensures err { OnErr result (SamePlaces desk.old desk.new) }
 {
-    if due <= moment && shared && desk.pass.serial() < u64::MAX {
+    if due <= moment && hands_over && desk.pass.serial() < u64::MAX {
         queue.put(rt, &mut desk.pass, token)
     } else {
         desk.wheel.add(due, token)

@@ -7,7 +7,8 @@ ghost use Rattle.ts_thread.specs.Desks.{IsDeskOf};
 
 use crate::desk::Desk;
 use crate::did::{Did, RunEnd};
-use crate::taking::{run_desk, turn_desk};
+use crate::shared::Shared;
+use crate::token::{run_desk, turn_desk};
 use std::alloc::Global;
 use std::sync::Wait;
 use ts_group::{Group, World};
@@ -79,15 +80,13 @@ impl<'a, W: World + Drop, G: Gate> EventThread<'a, W, G> {
         ensures err { OnErr result (LosesOne (length (tags_of self.old.slots.now)) moment
             self.old.desk self.new.desk) }
     {
-        turn_desk(
+        let shared = Shared {
             rt,
-            self.slots,
-            self.queue,
-            self.gate,
-            self.number,
-            &mut self.desk,
-            moment,
-        )
+            slots: self.slots,
+            queue: self.queue,
+            gate: self.gate,
+        };
+        turn_desk(&shared, self.number, &mut self.desk, moment)
     }
 
     /// Takes at most so many turns, the first at the moment 0. After an idle turn it goes on at the moment at
@@ -102,15 +101,13 @@ impl<'a, W: World + Drop, G: Gate> EventThread<'a, W, G> {
         ensures err { OnErr result (HasLacked W.fits W.asking W.answers W.called W.heard W.left
             (tags_of self.old.slots.now) budget self.old.desk self.new.desk) }
     {
-        run_desk(
+        let shared = Shared {
             rt,
-            self.slots,
-            self.queue,
-            self.gate,
-            self.number,
-            &mut self.desk,
-            budget,
-        )
+            slots: self.slots,
+            queue: self.queue,
+            gate: self.gate,
+        };
+        run_desk(&shared, self.number, &mut self.desk, budget)
     }
 
     /// The seat and the pass.

@@ -13,9 +13,9 @@ use Rattle.ts_thread.specs.declared.did.Unfinished.TheVariants as unfinished
 use Rattle.ts_thread.specs.Tags.{CanAsk, GroupsFit}
 use Rattle.ts_thread.specs.Started.{CanStart}
 use Rattle.ts_thread.specs.Whole.{EachTells, EndSoon}
-use Rattle.ts_group_tests.specs.declared.peer.Peer.{Peer}
-use Rattle.ts_group_tests.specs.declared.peer.TheConstants.{ASKED, MOST_TODO}
-use Rattle.ts_group_tests.specs.Peers.{PeerFits, PeerSound, PeerMayAsk, PeerRight, PeerAnswers, peer_left}
+use Rattle.ts_toys.specs.declared.peer.Peer.{Peer}
+use Rattle.ts_toys.specs.declared.peer.TheConstants.{ASKED, MOST_TODO}
+use Rattle.ts_toys.specs.Peers.{PeerFits, PeerSound, PeerMayAsk, PeerRight, PeerAnswers, peer_left}
 use Rattle.ts_journal.specs.declared.entry.Entry.{Entry}
 use Rattle.ts_journal.specs.Log.{Log, Extends, GoesOn}
 use Rattle.ts_thread_tests.specs.Peers.{IsPeer, AreRow, row_tags}

@@ -13,7 +13,7 @@ use Rattle.ts_group.specs.declared.slot.TheConstants.{MOST_IN_TURN}
 use Rattle.ts_group.specs.Answers.{Holds}
 use Rattle.ts_group.specs.Context.{IsFresh}
 use Rattle.ts_group.specs.Slot.{IsAtRest}
-use Rattle.ts_group_tests.specs.declared.toy.TheConstants.{MOST_WORK}
+use Rattle.ts_toys.specs.declared.toy.TheConstants.{MOST_WORK}
 use Rattle.ts_thread.specs.declared.TheConstants.{MOST_ALONE}
 use Rattle.ts_thread.specs.Goings.{IsIdle}
 use Rattle.ts_thread.specs.Started.{CanStart}

@@ -1,9 +1,9 @@
 -- What holds of groups of peers, of which one is only asked.
 use Rattle.std.specs.Prelude.{◌≡◌, ℕ, zero, suc, ◌+◌, ◌≤◌, List, [], ◌∷◌, Bool, true, false, All, length}
 use Rattle.ts_group.specs.declared.group.Group.{Group}
-use Rattle.ts_group_tests.specs.declared.peer.Peer.{Peer}
-use Rattle.ts_group_tests.specs.declared.peer.TheConstants.{ASKED}
-use Rattle.ts_group_tests.specs.Peers.{PeerFits, PeerSound}
+use Rattle.ts_toys.specs.declared.peer.Peer.{Peer}
+use Rattle.ts_toys.specs.declared.peer.TheConstants.{ASKED}
+use Rattle.ts_toys.specs.Peers.{PeerFits, PeerSound}
 use Rattle.ts_thread.specs.Tags.{GroupFits, GroupsFit}
 
 -- a peer's group fits the tag

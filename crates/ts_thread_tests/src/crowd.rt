@@ -1,7 +1,7 @@
 //! Crowds of toy worlds, which threads run; what was handled late shows that a group was missed.
 
 ghost use Rattle.std.specs.Prelude.{◌<◌, ◌≤◌};
-ghost use Rattle.ts_group_tests.specs.declared.peer.TheConstants.{MOST_TODO};
+ghost use Rattle.ts_toys.specs.declared.peer.TheConstants.{MOST_TODO};
 ghost use Rattle.ts_thread.specs.declared.TheConstants.{MOST_THREADS};
 ghost use Rattle.ts_thread_tests.specs.declared.crowd.TheConstants.{MOST_CROWD};
 
@@ -11,10 +11,10 @@ use std::alloc::Global;
 use std::sync::Wait;
 use std::thread::Threads;
 use ts_group::Group;
-use ts_group_tests::toy::Toy;
 use ts_journal::Entry;
 use ts_link::{NoMemory, OpenGate};
-use ts_thread::run_groups;
+use ts_thread::{Plan, run_groups};
+use ts_toys::toy::Toy;
 
 /// How many groups a crowd has at most.
 pub const MOST_CROWD: u32 = 4096;
@@ -35,7 +35,12 @@ where
 {
     let ToyRow { groups, tags } = make_toys(alloc, count, todo)?;
     let gate = OpenGate::make();
-    run_groups(rt, alloc, groups, tags, count, threads, BUDGET, &gate)
+    let plan = Plan {
+        starts: count,
+        threads,
+        budget: BUDGET,
+    };
+    run_groups(rt, alloc, groups, tags, plan, &gate)
 }
 
 /// What a crowd of toy worlds did.

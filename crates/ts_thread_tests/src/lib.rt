@@ -1,8 +1,11 @@
-//! Groups of one type of world that ask each other: driven to their end, on one thread and after many.
+//! Small worlds that are run: one group at a time, and rows of groups that ask each other, driven to their end on
+//! one thread and after many.
 #![tactic(auto)]
 
 #[cfg(test)]
 mod crowd;
+#[cfg(test)]
+mod groups;
 #[cfg(test)]
 mod row;
 #[cfg(test)]

@@ -1,10 +1,9 @@
 //! A row of peers, of which the last is only asked.
 
 ghost use Rattle.std.specs.Prelude.{◌≡◌, ◌<◌, ◌≤◌, true, false, All, IfOk, OnOk, IsOkUnless};
-ghost use Rattle.ts_thread.specs.declared.TheConstants.{MOST_ALONE, MOST_THREADS};
-ghost use Rattle.ts_thread.specs.declared.ending.TheConstants.{MOST_TURNS};
+ghost use Rattle.ts_thread.specs.declared.TheConstants.{MOST_ALONE, MOST_THREADS, MOST_TURNS};
 ghost use Rattle.ts_thread.specs.Goings.{IsIdle};
-ghost use Rattle.ts_group_tests.specs.Peers.{PeerCounted};
+ghost use Rattle.ts_toys.specs.Peers.{PeerCounted};
 ghost use Rattle.ts_thread_tests.specs.Peers.{IsPeer, AreRow, row_tags};
 ghost use Rattle.ts_thread_tests.specs.ToyRows.{HasEnded};
 
@@ -12,10 +11,10 @@ use std::alloc::Global;
 use std::sync::Wait;
 use std::thread::Threads;
 use ts_group::Group;
-use ts_group_tests::peer::{ASKED, MOST_TODO, Peer, new_peer};
 use ts_journal::Entry;
 use ts_link::{Gate, NoMemory};
-use ts_thread::{ONLY_SEAT, Unfinished, finish_within, run_whole};
+use ts_thread::{ONLY_SEAT, Plan, Unfinished, finish_within, run_whole};
+use ts_toys::peer::{ASKED, MOST_TODO, Peer, new_peer};
 
 /// How many turns each thread takes at most.
 pub(crate) const BUDGET: u64 = 1_000_000;
@@ -109,7 +108,12 @@ pub fn run_row<G: Gate + Sync, R: Threads + Wait + Sync>(
 {
     let groups = make_row(alloc, todo, false)?;
     let tags = make_tags(alloc)?;
-    run_whole(rt, alloc, groups, tags, ASKED, threads, BUDGET, gate)
+    let plan = Plan {
+        starts: ASKED,
+        threads,
+        budget: BUDGET,
+    };
+    run_whole(rt, alloc, groups, tags, plan, gate)
 }
 
 /// The tags of a row.

@@ -8,12 +8,12 @@ use crate::toys::{ToyTally, run_tally};
 use crate::turns::{first_tokens, play, play_held, play_runs, play_shared};
 use std::alloc::Global;
 use std::test::Fail;
-use ts_group_tests::burst::Burst;
-use ts_group_tests::heir::Heir;
-use ts_group_tests::steps::{Countdown, Stepper};
 use ts_link::{MeetGate, NoMemory, OpenGate};
 use ts_queue::Token;
 use ts_thread::{Did, MOST_ALONE, RunEnd, Unfinished};
+use ts_toys::burst::Burst;
+use ts_toys::heir::Heir;
+use ts_toys::steps::{Countdown, Stepper};
 
 // What stands of a row whose peers had three steps each: nothing pending, each that works whole, nothing to
 // do, and the last of them was asked for each step of the four that ask.

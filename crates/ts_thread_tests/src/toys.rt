@@ -1,7 +1,7 @@
 //! Rows of toy worlds, which threads run and which are driven to their end.
 
 ghost use Rattle.std.specs.Prelude.{◌≡◌, ◌<◌, ◌≤◌, IfOk, IsOkUnless, All, length};
-ghost use Rattle.ts_group_tests.specs.declared.peer.TheConstants.{MOST_TODO};
+ghost use Rattle.ts_toys.specs.declared.peer.TheConstants.{MOST_TODO};
 ghost use Rattle.ts_thread.specs.declared.TheConstants.{MOST_THREADS};
 ghost use Rattle.ts_thread_tests.specs.ToyRows.{AreToys, HasEnded};
 
@@ -10,9 +10,9 @@ use std::alloc::Global;
 use std::sync::Wait;
 use std::thread::Threads;
 use ts_group::Group;
-use ts_group_tests::toy::Toy;
 use ts_link::{Gate, NoMemory, OpenGate};
-use ts_thread::{Unfinished, run_whole};
+use ts_thread::{Plan, Unfinished, run_whole};
+use ts_toys::toy::Toy;
 
 /// How many groups a row has.
 pub const TOYS: u32 = 8;
@@ -60,7 +60,12 @@ where
     ensures lacks { IsOkUnless result Unfinished.NoMemory }
 {
     let ToyRow { groups, tags } = make_toys(alloc, TOYS, todo)?;
-    run_whole(rt, alloc, groups, tags, TOYS, threads, BUDGET, gate)
+    let plan = Plan {
+        starts: TOYS,
+        threads,
+        budget: BUDGET,
+    };
+    run_whole(rt, alloc, groups, tags, plan, gate)
 }
 
 /// What stands in a row at the end.

@@ -1,7 +1,7 @@
 //! Turns of one thread over a row of peers, one after the other.
 
 ghost use Rattle.std.specs.Prelude.{◌≡◌, ◌≤◌, IfOk};
-ghost use Rattle.ts_group_tests.specs.declared.peer.TheConstants.{ASKED, MOST_TODO};
+ghost use Rattle.ts_toys.specs.declared.peer.TheConstants.{ASKED, MOST_TODO};
 ghost use Rattle.ts_queue.specs.Passes.{IsPassOf};
 ghost use Rattle.ts_slot.specs.Words.{tags_of, view};
 ghost use Rattle.ts_thread.specs.declared.TheConstants.{MOST_THREADS};
@@ -12,11 +12,11 @@ use crate::row::{make_row, make_tags};
 use std::alloc::Global;
 use std::sync::Wait;
 use ts_group::Group;
-use ts_group_tests::peer::{ASKED, Peer};
 use ts_link::{NoMemory, OpenGate};
 use ts_queue::{EventQueue, QueuePass, Token};
 use ts_slot::{Seat, Slots};
-use ts_thread::{Did, EventThread, RunEnd, start_groups};
+use ts_thread::{Did, EventThread, RunEnd, Shared, start_groups};
+use ts_toys::peer::{ASKED, Peer};
 
 // What a row of peers in slots is run with.
 struct Opened {
@@ -58,7 +58,14 @@ fn open_row<R: Wait>(rt: &R, alloc: Global, todo: u32, starts: u32) -> Result<Op
         return Err(NoMemory);
     };
     let (queue, mut pass) = EventQueue::make(alloc)?;
-    start_groups(rt, alloc, &slots, &queue, &mut seat, &mut pass, starts)?;
+    let gate = OpenGate::make();
+    let shared = Shared {
+        rt,
+        slots: &slots,
+        queue: &queue,
+        gate: &gate,
+    };
+    start_groups(&shared, alloc, &mut seat, &mut pass, starts)?;
     Ok(Opened {
         slots,
         seat,

@@ -29,6 +29,7 @@ use Rattle.ts_phases.specs.Holding.{IfTold, StepKeeps}
 use Rattle.ts_phases.specs.Owed.{MayAsk, MayEnter, MayFollow}
 use Rattle.ts_phases.specs.View.{LinkSide, View, view_of}
 use Rattle.ts_phases.proofs.Leaving.{leaves_in}
+use Rattle.ts_phases.proofs.Owed.{all_kept}
 use Rattle.ts_phases.proofs.Sparing.{spares_in}
 use Rattle.ts_transform.proofs.Joined.{named_unroused}
 use Rattle.ts_txn.specs.declared.course.Course.{Course}
@@ -55,16 +56,21 @@ module _ (v w : View) where
   leaves_begun p calls = record {
     origin = leaves_in v w p (record {
       taken = ap (λ (s : LinkSide). s.look.taken) calls.origin;
+      carried = ap (λ (s : LinkSide). s.look.carried) calls.origin;
       waits = ap (λ (s : LinkSide). s.outbox) calls.origin;
     });
-    client = spares_in v w p (record { given = ap (λ (l : Look). l.given) calls.client; held = calls.held });
+    client = spares_in v w p (record {
+      reads = ap (λ (l : Look). l.reads) calls.client;
+      given = ap (λ (l : Look). l.given) calls.client;
+      held = calls.held;
+    });
   }
 
 -- nothing is done
 leaves_same : (p : Phase) (v : View) → LeavesSides p v v
 leaves_same p v = record {
-  origin = leaves_in v v p (record { taken = refl; waits = refl });
-  client = spares_in v v p (record { given = refl; held = refl });
+  origin = leaves_in v v p (record { taken = refl; carried = refl; waits = refl });
+  client = spares_in v v p (record { reads = refl; given = refl; held = refl });
 }
 
 -- nothing closes where a body begins, or where a plugin is asked
@@ -133,23 +139,8 @@ pub stays_started : {Q : Type 0} (led new : Course Q) → is_fresh_on led ≡ fa
 stays_started led new started (inl same) = ap is_fresh_on same ∙ started
 stays_started led new started (inr lacks) = ap is_fresh_on lacks
 
--- where nothing is done a core stays the same, and a transaction that closes goes on to close
+-- a transaction that closes goes on to close
 module _ {C O : Type 0} (client : link.Ghosts C) (origin : link.Ghosts O) (both : upstream.Ghosts O C) where
-  pub same_core : (s : Core C O) → StepKeeps client origin both s s
-  same_core s = record {
-    number = refl;
-    setup = refl;
-    plugins_at = refl;
-    hooks = refl;
-    client = record { source = refl; name = refl; plan = refl };
-    origin = record { source = refl; name = refl; plan = refl };
-    client_base = refl;
-    origin_base = refl;
-    dialed = refl;
-    pair = λ h. h;
-    refusal = record { still = λ c h. h; before = λ c h. h };
-  }
-
   -- where no call is made on either link, none is minded
   enter_minds : (s t : Core C O) (p : Phase) (q : Request) (h : ResponseHead) (made : Step)
       → MayEnter (arc_value s.setup).plugins.items p q h
@@ -324,7 +315,7 @@ module _ {C O Q : Type 0} (client : link.Ghosts C) (origin : link.Ghosts O) (bot
   pub idle : (s : Core C O) (a : Context) (role : ℕ) (main : Option StageContinuation) (course : Course Q)
       → PassesNoBody course → HandlesEvent client origin both s s a a role main course course
   idle s a role main course none = record
-      { keeps = same_core client origin both s; handles = idle_on s a role main course none }
+      { keeps = all_kept client origin both s; handles = idle_on s a role main course none }
 
   -- where no body is passed on, said of the first continuation before its event was handled
   pub handles_alone : (s t : Core C O) (a b : Context) (role : ℕ) (main u : Option StageContinuation)

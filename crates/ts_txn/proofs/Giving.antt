@@ -5,19 +5,21 @@ use Rattle.ts_link.specs.MemLink.{LinkState, look_of}
 use Rattle.ts_txn.specs.Net.{IsNextClient}
 use Rattle.ts_txn.specs.PairStock.{IsNewPair, IsSoundStock, Pair}
 
-module _ (pairs : List Pair) (front : Pair) (rest : List Pair) (last : Option LinkState) (given : ℕ)
-    (is : pairs ≡ front ∷ rest) (sound : IsSoundStock pairs last given) where
-  whole : IsSoundStock (front ∷ rest) last given
-  whole = subst (λ ps. IsSoundStock ps last given) is sound
+module _ (pairs : List Pair) (front : Pair) (rest : List Pair) (last : Option LinkState)
+    (later : List (Option LinkState)) (given : ℕ) (is : pairs ≡ front ∷ rest)
+    (sound : IsSoundStock pairs last later given) where
+  whole : IsSoundStock (front ∷ rest) last later given
+  whole = subst (λ ps. IsSoundStock ps last later given) is sound
 
   front_new : IsNewPair front
   front_new = All-head IsNewPair front rest whole.new_ahead
 
   -- the rest is sound
-  pub rest_sound : IsSoundStock rest front.1 (given + 1)
+  pub rest_sound : IsSoundStock rest front.1 later (given + 1)
   rest_sound = record {
     new_ahead = All-tail IsNewPair front rest whole.new_ahead;
     new_origin = front_new.origin;
+    new_later = whole.new_later;
     numbers = omega (arith, whole.numbers);
   }
 
@@ -28,7 +30,12 @@ module _ (pairs : List Pair) (front : Pair) (rest : List Pair) (last : Option Li
       let next : IsNextClient true (look_of (record front.0 { name = given + 1 })) given (given + 1) = record {
         number = refl;
         name = refl;
-        unused = λ _. record { no_given = front_new.client.no_given; no_taken = front_new.client.no_taken };
+        first = refl;
+        unused = λ _. record {
+          no_given = front_new.client.no_given;
+          no_taken = front_new.client.no_taken;
+          no_carried = refl;
+        };
       } in
       let named_so : IsNextClient true (look_of client) given (given + 1) = subst
       (λ l. IsNextClient true (look_of l) given (given + 1)) (sym named) next in

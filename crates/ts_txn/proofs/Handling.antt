@@ -27,7 +27,7 @@ use Rattle.ts_phases.specs.Cover.{set_after}
 use Rattle.ts_relay.specs.Duties.{UnlessLacking, WhileGoes}
 use Rattle.ts_phases.specs.Holding.{HasTable, IfTold, StepKeeps}
 use Rattle.ts_txn.specs.Making.{IsTxnSetup, end_of_course}
-use Rattle.ts_plugin.specs.Lines.{table_of}
+use Rattle.ts_plugin.specs.Lines.{IsTableOf}
 use Rattle.ts_phases.specs.View.{OriginRefuses, View, view_of}
 use Rattle.ts_txn.specs.World.{HoldsLittleOn, HoldsOn, IsSoundNow, IsSoundOn, IsSoundTxn}
 use Rattle.ts_txn.specs.declared.course.Course.{Course}
@@ -119,8 +119,9 @@ setup_stays Holds setup other at now same still holds =
 table_stays : {C O : Type 0} (client : link.Ghosts C) (origin : link.Ghosts O) (both : upstream.Ghosts O C)
     (s t : Core C O) → StepKeeps client origin both s t → HasTable s → HasTable t
 table_stays client origin both s t keeps has =
-    keeps.hooks ∙ has ∙ sym (ap (λ n. table_of n (arc_value s.setup).plugins.items) keeps.plugins_at)
-    ∙ sym (ap (λ x. table_of t.plugins_at (arc_value {X = Setup} x).plugins.items) keeps.setup)
+    subst (IsTableOf t.plugins_at (arc_value t.setup).plugins.items) (sym keeps.hooks)
+    (setup_stays (λ setup at. IsTableOf at setup.plugins.items s.hooks) (arc_value s.setup) (arc_value t.setup)
+    s.plugins_at t.plugins_at (ap (λ x. arc_value {X = Setup} x) keeps.setup) keeps.plugins_at has)
 
 module _ {C O Q : Type 0} (client : link.Ghosts C) (origin : link.Ghosts O) (both : upstream.Ghosts O C)
     (stage : transform.Ghosts Q TransformLine) where

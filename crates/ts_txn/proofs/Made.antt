@@ -14,9 +14,9 @@ use Rattle.ts_upstream.specs.declared.upstream.Upstream as upstream
 use Rattle.ts_transform.specs.declared.transform.Transform as transform
 use Rattle.ts_wire.specs.declared.frames.Mode.TheVariants as M
 use Rattle.ts_config.specs.declared.setup.TransformLine.{TransformLine}
-use Rattle.ts_relay.specs.Entering.{ActsAsLines}
+use Rattle.ts_passing.specs.Lines.{ActsAsLines}
 use Rattle.ts_phases.specs.Facts.{Asking, Untouched}
-use Rattle.ts_phases.specs.Holding.{HasTable}
+use Rattle.ts_plugin.specs.Lines.{table_of}
 use Rattle.ts_txn.specs.Making.{ArePaired, IsMadeOf, IsMadeOfIf, IsNewLink, IsNewLinkIf, IsTxnSetup}
 use Rattle.ts_phases.specs.View.{HasCount, PairIf, side, side_if, view_of}
 use Rattle.ts_txn.specs.World.{IsSoundOn, IsSoundTxn, IsSoundTxnGroup}
@@ -37,6 +37,7 @@ module _ {L : Type 0} (look : L → Look) where
   untouched l p made unused = record {
     count = count l p made;
     no_taken = ap (λ (k : Look). k.taken) (seen l p made) ∙ unused.no_taken;
+    no_carried = ap (λ (k : Look). k.carried) (seen l p made) ∙ unused.no_carried;
     no_waits = made.outbox;
     no_given = ap (λ (k : Look). k.given) (seen l p made) ∙ unused.no_given;
     no_held = made.inbox;
@@ -47,6 +48,7 @@ module _ {L : Type 0} (look : L → Look) where
   untouched_if None None made unused = record {
     count = omega arith;
     no_taken = refl;
+    no_carried = refl;
     no_waits = refl;
     no_given = refl;
     no_held = refl;
@@ -99,7 +101,8 @@ module _ {C O Q : Type 0} (client : link.Ghosts C) (origin : link.Ghosts O) (c :
         → (origin.tells ≡ true → IsNewLinkIf origin.look o)
         → ArePaired both.paired c o
         → ActsAsLines stage
-        → IsTxnSetup (arc_value t.core.setup) t.core.plugins_at → HasTable t.core
+        → IsTxnSetup (arc_value t.core.setup) t.core.plugins_at
+        → t.core.hooks ≡ table_of t.core.plugins_at (arc_value t.core.setup).plugins.items
         → t.course ≡ K.Phased P.Fresh → t.main ≡ None → t.core.sent.head ≡ 0 → t.core.sent.mode ≡ M.Plain
         → t.core.sent.cuts.items ≡ []
         → IsSoundTxn client origin both stage t [] next roles
@@ -116,7 +119,7 @@ module _ {C O Q : Type 0} (client : link.Ghosts C) (origin : link.Ghosts O) (c :
             lines = tt;
             little = λ told also. tt;
             setup = takes;
-            hooks = table;
+            hooks = record { table_is = table; ordered = takes.ordered };
             causes = record {
               counts = record {
                 client = count client.look c t.core.client of_client;

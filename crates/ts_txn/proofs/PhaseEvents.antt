@@ -38,7 +38,8 @@ use Rattle.ts_txn.specs.World.{HoldsOn, most_set}
 use Rattle.ts_txn.specs.declared.course.Course.{Course}
 use Rattle.ts_txn.specs.declared.course.Course.TheVariants as K
 use Rattle.ts_txn.proofs.Coursing.{behind_led}
-use Rattle.ts_txn.proofs.Events.{due_step, same_core, takes_ask, takes_step}
+use Rattle.ts_phases.proofs.Owed.{all_kept}
+use Rattle.ts_txn.proofs.Events.{due_step, takes_ask, takes_step}
 use Rattle.ts_txn.proofs.Handling.{after_one, sound_led}
 use Rattle.ts_txn.proofs.LoweringCourse.{phase_led}
 use Rattle.ts_txn.proofs.Seating.{due_rests}
@@ -126,7 +127,7 @@ module _ {C O Q : Type 0} (client : link.Ghosts C) (origin : link.Ghosts O) (bot
           );
           within = acts_none most_set a turn;
           handles = record {
-            keeps = same_core client origin both core;
+            keeps = all_kept client origin both core;
             handles = record {
               next = N.Go;
               takes = takes_ask client origin both core phase next asks.follows;

@@ -16,7 +16,8 @@ use Rattle.ts_txn.specs.Driven.{TakesEvent}
 use Rattle.ts_txn.specs.World.{HasTxnBegun, IsTxnOf}
 use Rattle.ts_phases.specs.declared.parts.Core.{Core}
 use Rattle.ts_txn.specs.declared.txn.Txn.{Txn}
-use Rattle.ts_txn.proofs.Events.{event_started, same_core}
+use Rattle.ts_phases.proofs.Owed.{all_kept}
+use Rattle.ts_txn.proofs.Events.{event_started}
 use Rattle.ts_txn.proofs.Fitting.{fits_on}
 use Rattle.ts_txn.proofs.Handling.{setup_stays}
 
@@ -24,7 +25,7 @@ module _ {C O Q : Type 0} (client : link.Ghosts C) (origin : link.Ghosts O) (bot
     (t u : Txn C O Q) where
   promises_on : StepKeeps client origin both t.core u.core
       → (is_fresh_on t.course ≡ false → is_fresh_on u.course ≡ false)
-      → KeepsPromises (IsTxnOf client.look origin.look) IsRightFor MayAskGroup t u
+      → KeepsPromises (IsTxnOf client origin) IsRightFor MayAskGroup t u
   promises_on keeps started =
       let same : arc_value u.core.setup ≡ arc_value t.core.setup = ap (λ s. arc_value s) keeps.setup in
       record {
@@ -45,20 +46,20 @@ module _ {C O Q : Type 0} (client : link.Ghosts C) (origin : link.Ghosts O) (bot
 
   -- the core stays the same
   promises_core : u.core ≡ t.core → (is_fresh_on t.course ≡ false → is_fresh_on u.course ≡ false)
-      → KeepsPromises (IsTxnOf client.look origin.look) IsRightFor MayAskGroup t u
+      → KeepsPromises (IsTxnOf client origin) IsRightFor MayAskGroup t u
   promises_core same started =
       promises_on (subst (λ (k : Core C O). StepKeeps client origin both t.core k) (sym same)
-      (same_core client origin both t.core)) started
+      (all_kept client origin both t.core)) started
 
   pub promises_start : HasTxnBegun t u
-      → KeepsPromises (IsTxnOf client.look origin.look) IsRightFor MayAskGroup t u
+      → KeepsPromises (IsTxnOf client origin) IsRightFor MayAskGroup t u
   promises_start begun = promises_core begun.core (λ was. begun.started)
 
   pub promises_event : TakesEvent client origin both t.core u.core t.course u.course
-      → KeepsPromises (IsTxnOf client.look origin.look) IsRightFor MayAskGroup t u
+      → KeepsPromises (IsTxnOf client origin) IsRightFor MayAskGroup t u
   promises_event takes =
       promises_on takes.keeps (event_started client origin both t.core u.core t.course u.course takes)
 
   pub promises_told : (asked : Asked HookQuestion HookReply) → HearsTxn t u asked
-      → KeepsPromises (IsTxnOf client.look origin.look) IsRightFor MayAskGroup t u
+      → KeepsPromises (IsTxnOf client origin) IsRightFor MayAskGroup t u
   promises_told asked hears = promises_core hears.core (λ was. hears.started)

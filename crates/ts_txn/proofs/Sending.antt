@@ -1,6 +1,6 @@
 -- A transaction whose links tell sends one request and one response at most, and the request first, wherever
 -- it is on its course.
-use Rattle.std.proofs.Common.{◌≡◌, ◌∙◌, ℕ, List, ◌++◌, length, false, ap, refl, sym, subst}
+use Rattle.std.proofs.Common.{◌≡◌, ◌∙◌, ℕ, List, ◌++◌, length, false, ap, inl, refl, sym, subst}
 use Rattle.std.specs.Arc.{arc_value}
 use Rattle.ts_config.specs.declared.setup.Setup.{Setup}
 use Rattle.ts_config.specs.declared.setup.TransformLine.{TransformLine}
@@ -38,7 +38,7 @@ module _ (setup : Setup) (plain : HasPlainRules setup) (refuses : Type 0) (v : V
   takes_request : HasTook setup v → TakesOneRequest (all_of v.client.look) v.origin
   takes_request (facts.OriginTook.nothing none idle) = sending.TakesOneRequest.nothing none idle
   takes_request (facts.OriginTook.request q goes carries) =
-      sending.TakesOneRequest.request (request_text setup q.head q.target q.host) carries.upload
+      sending.TakesOneRequest.request (request_text setup q.head q.target q.host)
       (record {
         head = q.head;
         rest = goes.knows.rest;
@@ -83,7 +83,7 @@ module _ (setup : Setup) (plain : HasPlainRules setup) (refuses : Type 0) (v : V
 
 module _ (setup : Setup) (refuses : Type 0) (v : View) where
   stands_served : (q : Request) → Served setup refuses (all_of v.client.look) q v.dialed v.origin
-      → RequestStands setup v
+      → RequestStands setup refuses v
   stands_served q served =
       let knows = served.goes.knows in
       record {
@@ -98,10 +98,10 @@ module _ (setup : Setup) (refuses : Type 0) (v : View) where
               has_origin = served.goes.has_origin;
             })
             refl;
-        took = took_request setup q v.origin served.carries served.no_waits;
+        took = took_request setup refuses q v.origin served.carries served.no_waits (inl served.uploaded);
       }
 
-  own_first : (a : OwnAnswer) → HasOwnCause setup refuses v a → SendsRequestFirst setup v
+  own_first : (a : OwnAnswer) → HasOwnCause setup refuses v a → SendsRequestFirst setup refuses v
   own_first a (facts.OwnCause.decided request is whole took) =
       sending.SendsRequestFirst.stands (record {
         request = request;
@@ -112,7 +112,7 @@ module _ (setup : Setup) (refuses : Type 0) (v : View) where
   own_first a (facts.OwnCause.fault q goes status to_head end failed lacks) =
       sending.SendsRequestFirst.failed failed
 
-  request_first : SomeText setup refuses v → SendsRequestFirst setup v
+  request_first : SomeText setup refuses v → SendsRequestFirst setup refuses v
   request_first (ends.SomeText.quiet h) = sending.SendsRequestFirst.quiet h
   request_first (ends.SomeText.own a cause h) = own_first a cause
   request_first (ends.SomeText.relayed done fin sent r) =
@@ -129,7 +129,7 @@ module _ {C O Q : Type 0} (client : link.Ghosts C) (origin : link.Ghosts O) (bot
       (view_of client origin t.core) t.course (sound.stands.holds told also))
 
   pub sends_request_first : (pending : List Pending) (next : ℕ) (roles : List Named)
-      → IsSoundTxn client origin both stage t pending next roles → TxnSendsRequestFirst client origin t
+      → IsSoundTxn client origin both stage t pending next roles → TxnSendsRequestFirst client origin both t
   sends_request_first pending next roles sound told also =
       request_first (arc_value t.core.setup) (OriginRefuses client both t.core) (view_of client origin t.core)
       (course_any (arc_value t.core.setup) (OriginRefuses client both t.core) stage

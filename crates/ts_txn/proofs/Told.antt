@@ -51,7 +51,8 @@ use Rattle.ts_txn.specs.declared.course.Course.{Course}
 use Rattle.ts_txn.specs.declared.course.Course.TheVariants as K
 use Rattle.ts_txn.specs.declared.making.TheConstants.{MOST_PLUGINS}
 use Rattle.ts_txn.proofs.Coursing.{behind_led}
-use Rattle.ts_txn.proofs.Events.{same_core, stays_started, steps_started}
+use Rattle.ts_phases.proofs.Owed.{all_kept}
+use Rattle.ts_txn.proofs.Events.{stays_started, steps_started}
 use Rattle.ts_txn.proofs.Handling.{after_one, sound_led}
 use Rattle.ts_txn.proofs.LoweringCourse.{if_both, phase_led}
 
@@ -143,7 +144,7 @@ module _ {C O Q : Type 0} (client : link.Ghosts C) (origin : link.Ghosts O) (bot
       → IsSoundNow client origin both stage core u new b
   sound_here covers =
       sound_led client origin both stage core core (K.Phased (asked_phase p question))
-      (K.Phased (told_step p asked).phase) new u b waits.stands (same_core client origin both core)
+      (K.Phased (told_step p asked).phase) new u b waits.stands (all_kept client origin both core)
       (λ told also. told_fact (arc_value core.setup) core.plugins_at group question
       (OriginRefuses client both core) (view_of client origin core) p asked (waits.stands.holds told also)
       waits.asks right)

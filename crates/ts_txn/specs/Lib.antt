@@ -3,6 +3,7 @@ pub mod Course
 pub mod CourseCover
 pub mod Driven
 pub mod EventsOwed
+pub mod Limits
 pub mod LoweringCourse
 pub mod Making
 pub mod MemNet

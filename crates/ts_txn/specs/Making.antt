@@ -5,6 +5,7 @@ use Rattle.ts_block.specs.Sent.{HasPlainRules}
 use Rattle.ts_config.specs.declared.setup.Setup.{Setup}
 use Rattle.ts_hooks.specs.declared.txn_end.TxnEnd.{TxnEnd}
 use Rattle.ts_link.specs.Link.{Look}
+use Rattle.ts_plugin.specs.Lines.{AreOrdered}
 use Rattle.ts_txn.specs.declared.making.TheConstants.{MOST_GROUPS, MOST_PLUGINS}
 use Rattle.ts_phases.specs.declared.parts.Peer.{Peer}
 use Rattle.ts_txn.specs.declared.course.Course.{Course}
@@ -19,16 +20,18 @@ pub record HasFewLines (setup : Setup) (plugins_at : ℕ) : Type 0 where
   pub plugins : length setup.plugins.items ≤ MOST_PLUGINS
   pub groups : plugins_at + length setup.plugins.items ≤ MOST_GROUPS
 
--- a setup that a transaction takes: it has few lines, and its header rules leave alone what the proxy sees to
--- itself
+-- a setup that a transaction takes: it has few lines, its header rules leave alone what the proxy sees to
+-- itself, and its plugin lines stand in the order in which they act
 pub record IsTxnSetup (setup : Setup) (plugins_at : ℕ) : Type 0 where
   pub few : HasFewLines setup plugins_at
   pub plain : HasPlainRules setup
+  pub ordered : AreOrdered setup.plugins.items
 
--- a link that gave nothing and took nothing
+-- a link that gave nothing and took nothing, of an upload either
 pub record IsNewLink (l : Look) : Type 0 where
   pub no_given : l.given ≡ []
   pub no_taken : l.taken ≡ []
+  pub no_carried : l.carried ≡ []
 
 abbrev pub IsNewLinkIf : {L : Type 0} → (L → Look) → Option L → Type 0
 IsNewLinkIf look None = ⊤

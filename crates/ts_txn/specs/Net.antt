@@ -12,14 +12,18 @@ use Rattle.ts_txn.specs.declared.net.Began.TheVariants as B
 use Rattle.ts_txn.specs.declared.net.Dialed.{Dialed}
 use Rattle.ts_txn.specs.declared.net.Dialed.TheVariants as D
 use Rattle.ts_txn.specs.declared.net.NetCounts.{NetCounts}
+use Rattle.ts_txn.specs.declared.retired.Noted.{Noted}
 use Rattle.ts_txn.specs.declared.retired.Retired.{Retired}
 
--- What is seen of a net: how many clients it gave, how many transactions it was handed and, where it tells,
--- what was left of each, in order; and how many answers of each kind it gave.
+-- What is seen of a net: how many clients it gave, how many transactions it was handed, and of how many it was
+-- told after which the client went on; of each of them, where it tells, what was left, in order; and how many
+-- answers of each kind it gave.
 pub record NetSeen (C O : Type 0) : Type 0 where
   pub given : ℕ
   pub handed : ℕ
   pub retired : List (Retired C O)
+  pub notes : ℕ
+  pub noted : List (Noted O)
   pub counts : NetCounts
 
 -- a net that gave no client and was handed nothing
@@ -27,6 +31,8 @@ pub record IsFreshNet {C O : Type 0} (net : NetSeen C O) : Type 0 where
   pub given : net.given ≡ 0
   pub handed : net.handed ≡ 0
   pub retired : net.retired ≡ []
+  pub notes : net.notes ≡ 0
+  pub noted : net.noted ≡ []
 
 -- which counts an answer raises
 pub record Raised : Type 0 where
@@ -64,6 +70,8 @@ pub record CountsRise {C O : Type 0} (raised : Raised) (old new : NetSeen C O) :
 pub record IsHandedNothing {C O : Type 0} (old new : NetSeen C O) : Type 0 where
   pub handed : new.handed ≡ old.handed
   pub retired : new.retired ≡ old.retired
+  pub notes : new.notes ≡ old.notes
+  pub noted : new.noted ≡ old.noted
 
 -- it gave no client and was handed nothing
 pub record GivesNobody {C O : Type 0} (old new : NetSeen C O) : Type 0 where
@@ -75,14 +83,31 @@ pub record IsHanded {C O : Type 0} (tells : Bool) (retired : Retired C O) (old n
     Type 0 where
   pub handed : new.handed ≡ old.handed + 1
   pub told : tells ≡ true → new.retired ≡ old.retired ++ retired ∷ []
+  pub notes : new.notes ≡ old.notes
+  pub noted : new.noted ≡ old.noted
   pub given : new.given ≡ old.given
   pub counts : new.counts ≡ old.counts
 
--- The client that comes after so many: its name is its number among all that were given and, where it tells,
--- it gave and took nothing.
+-- it was handed what is left of this transaction, after which its client goes on
+pub record IsNoted {C O : Type 0} (tells : Bool) (noted : Noted O) (old new : NetSeen C O) : Type 0 where
+  pub notes : new.notes ≡ old.notes + 1
+  pub told : tells ≡ true → new.noted ≡ old.noted ++ noted ∷ []
+  pub handed : new.handed ≡ old.handed
+  pub retired : new.retired ≡ old.retired
+  pub given : new.given ≡ old.given
+  pub counts : new.counts ≡ old.counts
+
+-- some names came behind those that were there
+pub record AddsNames (old new : List ℕ) : Type 0 where
+  pub more : List ℕ
+  pub behind : new ≡ old ++ more
+
+-- The client that comes after so many: its name is its number among all that were given, it is the first link
+-- of its connection and, where it tells, it gave and took nothing.
 pub record IsNextClient (tells : Bool) (client : Look) (before given : ℕ) : Type 0 where
   pub number : given ≡ before + 1
   pub name : client.name ≡ given
+  pub first : client.before ≡ ([], [])
   pub unused : tells ≡ true → IsNewLink client
 
 -- an accept gives the next client, or none

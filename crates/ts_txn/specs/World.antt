@@ -19,11 +19,11 @@ use Rattle.ts_relay.specs.BodyLinks.{HoldsLittle}
 use Rattle.ts_relay.specs.Duties.{set_by_beginning}
 use Rattle.ts_txn.specs.Course.{CourseHolds, StandsForCauseOn}
 use Rattle.ts_txn.specs.CourseCover.{IsCoveredOn, StaysOnOrLacks, is_fresh_on}
-use Rattle.ts_relay.specs.Entering.{ActsAsLines}
+use Rattle.ts_passing.specs.Lines.{ActsAsLines}
 use Rattle.ts_phases.specs.Holding.{HasTable, IfTold, IsSameLink}
 use Rattle.ts_txn.specs.LoweringCourse.{IsOfLinesOn}
 use Rattle.ts_txn.specs.Making.{IsTxnSetup}
-use Rattle.ts_phases.specs.View.{IsPaired, View, side_if, view_of}
+use Rattle.ts_phases.specs.View.{IsPaired, StillIf, View, side_if, view_of}
 use Rattle.ts_txn.specs.declared.course.Course.{Course}
 use Rattle.ts_txn.specs.declared.course.Course.TheVariants as K
 use Rattle.ts_phases.specs.declared.parts.Core.{Core}
@@ -95,19 +95,23 @@ faults_if look None = 0
 faults_if look (Some l) = (look l).faults
 
 -- The transaction is the one that the tag names, between the links that the tag shows as they were made: they
--- keep their sources, names and plans, and so where they stall and leave; and their faults are counted from
--- then on. Where the tag says so, no call of them fails or waits by its number, and the transaction was
--- started.
-pub record IsTxnOf {C O Q : Type 0} (clook : C → Look) (olook : O → Look)
+-- are still these, and keep their sources, names and plans, and so where they stall and leave; and their
+-- faults are counted from then on. Where the tag says so, no call of them fails or waits by its number, and
+-- the transaction was started.
+pub record IsTxnOf {C O Q : Type 0} (client_link : link.Ghosts C) (origin_link : link.Ghosts O)
     (tag : TxnTag C O) (t : Txn C O Q) : Type 0 where
   pub number : t.core.number ≡ tag.number
   pub setup : arc_value t.core.setup ≡ tag.setup.value
   pub plugins_at : t.core.plugins_at ≡ tag.plugins_at
-  pub client : IsSameLink (clook tag.client.value) (clook t.core.client.link)
-  pub origin : IsSameLinkIf olook tag.origin.value t.core.origin
-  pub client_base : t.core.client.base ≡ (clook tag.client.value).faults
-  pub origin_base : (side_if olook t.core.origin).base ≡ faults_if olook tag.origin.value
-  pub sure : tag.sure ≡ true → IsSure (clook t.core.client.link) × IsSureIf olook t.core.origin
+  pub client : IsSameLink (client_link.look tag.client.value) (client_link.look t.core.client.link)
+  pub origin : IsSameLinkIf origin_link.look tag.origin.value t.core.origin
+  pub client_still : client_link.still tag.client.value t.core.client.link
+  pub origin_still : StillIf origin_link.still tag.origin.value t.core.origin
+  pub client_base : t.core.client.base ≡ (client_link.look tag.client.value).faults
+  pub origin_base : (side_if origin_link.look t.core.origin).base
+      ≡ faults_if origin_link.look tag.origin.value
+  pub sure : tag.sure ≡ true
+      → IsSure (client_link.look t.core.client.link) × IsSureIf origin_link.look t.core.origin
   pub started : tag.started ≡ true → is_fresh_on t.course ≡ false
 
 -- Where it was not started, it is, or has ended for want of memory; else nothing changed. Now it was started.

@@ -9,7 +9,7 @@ ghost use Rattle.ts_journal.specs.declared.entry.TheConstants.{GREATEST};
 ghost use Rattle.ts_phases.specs.Causes.{HasCause};
 ghost use Rattle.ts_phases.specs.View.{view_of};
 ghost use Rattle.ts_txn.specs.CourseCover.{is_fresh_on};
-ghost use Rattle.ts_relay.specs.Entering.{ActsAsLines};
+ghost use Rattle.ts_passing.specs.Lines.{ActsAsLines};
 ghost use Rattle.ts_txn.specs.Making.{ArePaired, IsMadeOf, IsMadeOfIf, IsNewLink, IsNewLinkIf, IsTxnSetup};
 ghost use Rattle.ts_txn.specs.Making.{base_if, end_of_course, end_of_phase, link_if};
 ghost use Rattle.ts_txn.specs.Resting.{HasEndedSo, RestsWithBlock};
@@ -24,7 +24,7 @@ use ts_config::{Setup, TransformLine};
 use ts_hooks::TxnEnd;
 use ts_iobuf::Waiting;
 use ts_link::{Link, NoMemory};
-use ts_phases::{Core, Peer, Phase, Sent};
+use ts_phases::{Core, Peer, Phase, Received, Sent};
 use ts_plugin::table_of;
 use ts_transform::Transform;
 use ts_upstream::Upstream;
@@ -63,7 +63,7 @@ pub struct TxnParts<C, O> {
 fn make_peer<L: Link + Drop>(alloc: Global, link: L) -> Result<Peer<L>, NoMemory>
     ensures { IfOk result (IsMadeOf L.look link) }
 {
-    let inbox = Waiting::new(alloc)?;
+    let inbox = Received::new(alloc)?;
     let outbox = Waiting::new(alloc)?;
     Ok(Peer {
         base: link.faults(),
@@ -94,7 +94,6 @@ impl<C: Link + Drop, O: Upstream<C> + Drop, P: Transform<Line = TransformLine> +
     /// A transaction between a client and an origin, which were not used. It was not started. Its hook
     /// plugins have the groups from `plugins_at` on; its setup has few lines, and their header rules leave
     /// alone what the proxy sees to itself.
-    #[tactic(auto, using(crate::proofs::Made::sound))]
     pub fn make(
         alloc: Global,
         number: u64,
@@ -146,9 +145,9 @@ impl<C: Link + Drop, O: Upstream<C> + Drop, P: Transform<Line = TransformLine> +
     /// of a body, it ended whole, with what the lines make of every body that begins so; and else where
     /// the body was cut or bad, with what they had written of it. Where both links tell, what a
     /// transaction sends, header rules included, is one request to its origin and one response to its
-    /// client at most; and once a head was queued for the client, the request stands whole at the origin
-    /// and nothing waits for it, unless the origin's link failed. What an upload wrote stands behind the
-    /// request: `handle` says that nothing else does.
+    /// client at most; and once a head was queued for the client, the request stands whole at the origin,
+    /// with its upload behind it, of which none is left unless it is refused, and nothing waits for it,
+    /// unless the origin's link failed.
     pub fn end(&self) -> Option<TxnEnd>
         ensures end { result ≡ end_of_course self.now.course }
         ensures rests { result ≡ None → is_fresh_on self.now.course ≡ false → (next : ℕ) (roles : List Named)
@@ -176,7 +175,7 @@ impl<C: Link + Drop, O: Upstream<C> + Drop, P: Transform<Line = TransformLine> +
         ensures first { (pending : List Pending) (next : ℕ) (roles : List Named)
             → IsSoundTxn C.Link O.Link O.Upstream.own P.Transform
             self.now pending next roles
-            → TxnSendsRequestFirst C.Link O.Link self.now }
+            → TxnSendsRequestFirst C.Link O.Link O.Upstream.own self.now }
     {
         end_of_course(&self.course)
     }

@@ -1,11 +1,11 @@
 //! The net, from which clients come, over which an origin is dialed for each of them, and to which what is
 //! left of their transactions is handed.
-ghost use Rattle.std.specs.Prelude.{◌≡◌, Bool, OnOk, OnErr};
-ghost use Rattle.ts_txn.specs.Net.{CountsRise, GivesClient, GivesNobody, GivesOrigin, IsHanded};
-ghost use Rattle.ts_txn.specs.Net.{IsHandedNothing, NetSeen, raised_by_accept, raised_by_begin};
+ghost use Rattle.std.specs.Prelude.{◌≡◌, ℕ, List, Bool, OnOk, OnErr};
+ghost use Rattle.ts_txn.specs.Net.{AddsNames, CountsRise, GivesClient, GivesNobody, GivesOrigin, IsHanded};
+ghost use Rattle.ts_txn.specs.Net.{IsHandedNothing, IsNoted, NetSeen, raised_by_accept, raised_by_begin};
 ghost use Rattle.ts_txn.specs.Net.{raised_by_dial};
 
-use crate::retired::Retired;
+use crate::retired::{Noted, Retired};
 use ts_link::{Link, NoMemory};
 use ts_upstream::Upstream;
 
@@ -49,6 +49,8 @@ pub struct NetCounts {
 
 /// Gives clients and origins, and takes what is left of their transactions.
 pub trait Net {
+    ghost use Rattle.ts_txn.specs.declared.net.Began.{Began};
+
     type Client: Link + Drop + Send;
 
     type Origin: Upstream<Self::Client> + Drop + Send;
@@ -56,13 +58,23 @@ pub trait Net {
     // Whether contracts see what it was handed. How much that was, they see of any net.
     ghost tells: { Bool };
 
-    // How many clients it gave, what it was handed, and its counts.
+    // How many clients it gave, what it was handed and what it was noted, and its counts.
     ghost seen: { Self → NetSeen Self.Client Self.Origin };
+
+    // The first net was let begin at these two addresses, with this answer, and was the second one then.
+    ghost begins: { List ℕ → List ℕ → Began → Self → Self → Type 0 };
 
     /// Begins to listen for clients at the first address, each of which has its origin at the second one.
     fn begin(&mut self, listen: &str, origin: &str) -> Began
         ensures nobody { GivesNobody (seen self.old) (seen self.new) }
-        ensures counts { CountsRise (raised_by_begin result) (seen self.old) (seen self.new) };
+        ensures counts { CountsRise (raised_by_begin result) (seen self.old) (seen self.new) }
+        ensures begins { begins listen.now origin.now result self.old self.new };
+
+    /// Waits at most so many milliseconds until a client or the origin of one may be ready, and adds the names
+    /// of clients of which one is. A name may be of nobody, and one that is ready may be missing.
+    fn wait(&mut self, most: u64, ready: &mut Vec<u64>)
+        ensures same { seen self.new ≡ seen self.old }
+        ensures adds { AddsNames ready.old.items ready.new.items };
 
     /// The next client, if one is there. The k-th client that it gives, counted from 1, has the name k.
     fn accept(&mut self) -> Accepted<Self::Client>
@@ -79,5 +91,11 @@ pub trait Net {
     /// Takes what is left of a transaction, and counts it. At want of memory it is dropped.
     fn retire(&mut self, retired: Retired<Self::Client, Self::Origin>) -> Result<(), NoMemory>
         ensures ok { OnOk result (IsHanded tells retired (seen self.old) (seen self.new)) }
+        ensures err { OnErr result (seen self.new ≡ seen self.old) };
+
+    /// Takes what is left of a transaction after which its client goes on, and counts it. At want of memory it
+    /// is dropped.
+    fn note(&mut self, noted: Noted<Self::Origin>) -> Result<(), NoMemory>
+        ensures ok { OnOk result (IsNoted tells noted (seen self.old) (seen self.new)) }
         ensures err { OnErr result (seen self.new ≡ seen self.old) };
 }

@@ -74,7 +74,7 @@ impl<C: Link + Drop, O: Upstream<C> + Drop, P: Transform<Line = TransformLine> +
 
     type Trace = ();
 
-    ghost fits = { λ tag t. IsTxnOf C.look O.look tag t };
+    ghost fits = { λ tag t. IsTxnOf C.Link O.Link tag t };
 
     ghost stamp = { λ t. 0 };
 

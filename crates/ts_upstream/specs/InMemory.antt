@@ -2,11 +2,12 @@
 use Rattle.std.specs.Prelude.{true, Some, ⊤}
 use Rattle.ts_link.specs.MemLink.{LinkState, look_of}
 use Rattle.ts_link.specs.declared.link.Link as link
+use Rattle.ts_upstream.specs.Uploads.{MovesNothing}
 use Rattle.ts_upstream.specs.declared.upstream.Upstream as upstream
 
 -- it tells, and no call on it changes more than its look says
 abbrev pub memory_link : link.Ghosts LinkState
-memory_link = record { tells = true; look = look_of; goes = λ a b. ⊤ }
+memory_link = record { tells = true; look = look_of; goes = λ a b. ⊤; still = λ a b. ⊤ }
 
 -- it refuses no upload, and has none left
 abbrev pub memory_origin : upstream.Ghosts LinkState LinkState
@@ -14,4 +15,5 @@ memory_origin = record {
   paired = λ c o. ⊤;
   refuses = λ o list. ⊥;
   upload_left = λ c o. Some 0;
+  one_upload = MovesNothing;
 }

@@ -1,6 +1,5 @@
 -- What an upload does to the two links that it is between: `c` and `c'` are the client's link before and
--- after it, `o`
--- and `o'` the origin's.
+-- after it, `o` and `o'` the origin's.
 use Rattle.std.specs.Prelude.{◌≡◌, ℕ, ◌+◌, ◌-◌, ◌*◌, ◌≤◌, ◌++◌, ◌⊎◌, List, length, ⊤, Bool, true, false, Option, Some, None}
 use Rattle.ts_link.specs.Counts.{Rose}
 use Rattle.ts_link.specs.Link.{Look, all_of, MayReplace, NoMore, Fewer, NeverStalls, NeverLeaves}
@@ -25,36 +24,68 @@ abbrev pub UploadLacks : Uploaded → Look → Look → Look → Look → Type 0
 UploadLacks U.NoMemory c c' o o' = (c' ≡ c) × (o' ≡ o)
 UploadLacks _ c c' o o' = ⊤
 
+-- Done leaves no upload that the origin's link has to move
+abbrev pub UploadEnds : Uploaded → Look → Type 0
+UploadEnds U.Done o' = o'.uploaded ≡ true
+UploadEnds _ o' = ⊤
+
 -- Why an upload answers as it does. What the client's source is, is known only where its link tells.
 pub record UploadCauses (tells : Bool) (Refuses : List ℕ → Type 0) (answer : Uploaded) (c c' o o' : Look) :
     Type 0 where
   pub refusal : tells ≡ true → UploadRefuses answer (Refuses c.source)
   pub counts : UploadCounts answer c c' o o'
   pub lacks : UploadLacks answer c c' o o'
+  pub ends : UploadEnds answer o'
 
--- What an upload leaves of the two links, where both tell. The client may have given more of the same list,
--- and the
--- origin may have taken more.
-pub record Uploads (c c' o o' : Look) : Type 0 where
-  pub client : all_of c' ≡ all_of c
-  pub gave : (more : List ℕ) × (c'.given ≡ c.given ++ more)
-  pub client_took : c'.taken ≡ c.taken
-  pub origin_gave : o'.given ≡ o.given
-  pub origin_left : MayReplace o.given o.left o'.left
-  pub origin_took : (more : List ℕ) × (o'.taken ≡ o.taken ++ more)
+-- What an upload leaves of the client's link, where it tells: it reads nothing that the link shows as given.
+pub record UploadsClient (c c' : Look) : Type 0 where
+  pub all : all_of c' ≡ all_of c
+  pub given : c'.given ≡ c.given
+  pub taken : c'.taken ≡ c.taken
+
+-- And of the origin's, which may have taken more: all of that is what the upload wrote.
+pub record UploadsOrigin (o o' : Look) : Type 0 where
+  pub given : o'.given ≡ o.given
+  pub left : MayReplace o.given o.left o'.left
+  pub more : List ℕ
+  pub taken : o'.taken ≡ o.taken ++ more
+  pub carried : o'.carried ≡ o.carried ++ more
+
+-- the same of each link that tells, by itself
+pub record Uploads (client_tells origin_tells : Bool) (c c' o o' : Look) : Type 0 where
+  pub client : client_tells ≡ true → UploadsClient c c'
+  pub origin : origin_tells ≡ true → UploadsOrigin o o'
 
 -- what an upload leaves of one link, whether it tells or not: its counts do not fall
 pub record KeepsLink (old new : Look) : Type 0 where
   pub source : new.source ≡ old.source
   pub name : new.name ≡ old.name
   pub plan : new.plan ≡ old.plan
+  pub before : new.before ≡ old.before
   pub faults : old.faults ≤ new.faults
   pub waits : old.waits ≤ new.waits
 
--- what it leaves of both
+-- what it leaves of both: the client's link counts no read and no write, and is moved for no other
 pub record UploadKeeps (c c' o o' : Look) : Type 0 where
   pub client : KeepsLink c c'
+  pub reads : c'.reads ≡ c.reads
+  pub writes : c'.writes ≡ c.writes
+  pub carried : c'.carried ≡ c.carried
+  pub uploaded : c'.uploaded ≡ c.uploaded
   pub origin : KeepsLink o o'
+
+-- an origin refuses the same lists
+pub record SameRefusal (old new : List ℕ → Type 0) : Type 0 where
+  pub still : (list : List ℕ) → old list → new list
+  pub before : (list : List ℕ) → new list → old list
+
+-- the two links after an upload are the same ones, they belong together, and what is refused stays
+pub record StayPaired {C O : Type 0} (client_still : C → C → Type 0) (origin_still : O → O → Type 0)
+    (paired : C → O → Type 0) (refuses : O → List ℕ → Type 0) (c c' : C) (o o' : O) : Type 0 where
+  pub client : client_still c c'
+  pub origin : origin_still o o'
+  pub pair : paired c' o'
+  pub refusal : SameRefusal (refuses o) (refuses o')
 
 -- the sum of two numbers, where both are told
 abbrev pub both : Option ℕ → Option ℕ → Option ℕ
@@ -91,11 +122,10 @@ Rose8 None new n = ⊤
 Rose8 (Some k) None n = ⊥
 Rose8 (Some k) (Some m) n = m ≤ k + 8 * n
 
--- an origin refuses the same lists
-pub record SameRefusal (old new : List ℕ → Type 0) : Type 0 where
-  pub still : (list : List ℕ) → old list → new list
-  pub before : (list : List ℕ) → new list → old list
-
 -- how many bytes a link took from one look to the next
 abbrev pub taken_since : Look → Look → ℕ
 taken_since old new = length new.taken - length old.taken
+
+-- an upload of a link that has none to move: it is done, and the two links are as they were
+abbrev pub MovesNothing : {C O : Type 0} → C → O → C → O → Uploaded → Type 0
+MovesNothing c o c' o' answer = (answer ≡ U.Done) × (c' ≡ c) × (o' ≡ o)

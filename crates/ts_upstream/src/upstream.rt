@@ -2,7 +2,7 @@
 ghost use Rattle.std.specs.Prelude.{◌≡◌, ℕ, List, true, Option, Some, ⊤};
 ghost use Rattle.std.proofs.Common.{arith};
 ghost use Rattle.ts_link.specs.Link.{IsSure};
-ghost use Rattle.ts_upstream.specs.Uploads.{Rose8, SameRefusal, UploadCauses, UploadFalls, UploadKeeps, Uploads, UploadsSurely, both, taken_since};
+ghost use Rattle.ts_upstream.specs.Uploads.{MovesNothing, Rose8, SameRefusal, StayPaired, UploadCauses, UploadFalls, UploadKeeps, Uploads, UploadsSurely, both, taken_since};
 
 use ts_link::{Link, MemLink};
 
@@ -21,6 +21,8 @@ pub enum Uploaded {
 
 /// The link to an origin, with the upload of the body that follows a client's request head.
 pub trait Upstream<C: Link>: Link {
+    ghost use Rattle.ts_upstream.specs.declared.upstream.Uploaded.{Uploaded};
+
     // The two links belong together.
     ghost paired: { C → Self → Type 0 };
 
@@ -30,14 +32,19 @@ pub trait Upstream<C: Link>: Link {
     // How much upload the two links have left, where they tell.
     ghost upload_left: { C → Self → Option ℕ };
 
+    // One call of `upload` led from the first two links to the last two, with this answer.
+    ghost one_upload: { C → Self → C → Self → Uploaded → Type 0 };
+
     /// Moves some of the upload. `Done` where none is left.
     fn upload(&mut self, client: &mut C) -> Uploaded
         requires { paired client.old self.old }
-        ensures paired { paired client.new self.new }
+        ensures paired { StayPaired C.still Self.still paired refuses
+            client.old client.new self.old self.new }
+        ensures once { one_upload client.old self.old client.new self.new result }
         ensures causes { UploadCauses C.tells (refuses self.old) result
             (C.look client.old) (C.look client.new) (Self.look self.old) (Self.look self.new) }
-        ensures bytes { C.tells ≡ true → Self.tells ≡ true →
-            Uploads (C.look client.old) (C.look client.new) (Self.look self.old) (Self.look self.new) }
+        ensures bytes { Uploads C.tells Self.tells
+            (C.look client.old) (C.look client.new) (Self.look self.old) (Self.look self.new) }
         ensures keeps { UploadKeeps
             (C.look client.old) (C.look client.new) (Self.look self.old) (Self.look self.new) }
         ensures falls { UploadFalls result (upload_left client.old self.old) (upload_left client.new self.new)
@@ -45,8 +52,7 @@ pub trait Upstream<C: Link>: Link {
             (both (C.look client.new).agains (Self.look self.new).agains) }
         ensures sure { IsSure (C.look client.old) → IsSure (Self.look self.old) →
             UploadsSurely result
-            (C.look client.old) (C.look client.new) (Self.look self.old) (Self.look self.new) }
-        ensures refuses { SameRefusal (refuses self.old) (refuses self.new) };
+            (C.look client.old) (C.look client.new) (Self.look self.old) (Self.look self.new) };
 
     // Calls of `Link` on either keep the pair and the refusal.
     ghost pair_stays: { (c d : C) (o p : Self) → paired c o → C.goes c d → Self.goes o p → paired d p };
@@ -66,6 +72,8 @@ impl<C: Link> Upstream<C> for MemLink {
     ghost refuses = { λ o list. ⊥ };
 
     ghost upload_left = { λ c o. Some 0 };
+
+    ghost one_upload = { MovesNothing };
 
     fn upload(&mut self, _client: &mut C) -> Uploaded
         ensures done { result ≡ Uploaded.Done }

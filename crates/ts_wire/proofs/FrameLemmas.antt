@@ -1,6 +1,6 @@
 -- What is sent in chunks is read back.
 use Rattle.std.proofs.Common.{◌≡◌, ℕ, ◌*◌, ◌<◌, ◌≤◌, true, List, [], ◌∷◌, ◌++◌, map, length, refl, sym, ap, ◌∙◌, arith, append_assoc, length-append}
-use Rattle.std.specs.Prelude.{All, flat_map, None, codes}
+use Rattle.std.specs.Prelude.{All, flat_map, None}
 use Rattle.std.proofs.lemmas.List.{append-nil, take_at, drop_at}
 use Rattle.std.proofs.lemmas.List.Elements.{All-nil, All-cons, All-head, All-tail}
 use Rattle.httparse.specs.Ascii.{crlf_bytes}
@@ -8,22 +8,23 @@ use Rattle.httparse.specs.Grammar.{ChunkLine, IsChunkLine, print_chunk_line, chu
 use Rattle.ts_wire.specs.declared.frames.Mode.{Mode}
 use Rattle.ts_wire.specs.declared.frames.Mode.TheVariants.{Plain, Chunked}
 use Rattle.ts_wire.specs.Body.{IsShortLine, Chunk, IsChunk, print_chunk, print_chunks, contents, InTrailer}
-use Rattle.ts_wire.specs.Frames.{IsPiece, hex, chunk_text, frame_of, frames, cut_body, cut, ReadsBack}
+use Rattle.ts_wire.specs.Frames.{IsPiece, hex, chunk_text, frame_of, frames, cut_body, cut, last_chunk, ReadsBack}
+use Rattle.ts_wire.proofs.OneBody as whole
 use Rattle.ts_wire.proofs.HexLemmas.{hex_pass, length-hex, hex_value, hex_zero}
 
 -- the line of a chunk of so many bytes
-line_of : ℕ → ChunkLine
+pub line_of : ℕ → ChunkLine
 line_of n = record { digits = hex n; pad = []; extension = None }
 
-line_text : (n : ℕ) → print_chunk_line (line_of n) ≡ hex n ++ crlf_bytes
+pub line_text : (n : ℕ) → print_chunk_line (line_of n) ≡ hex n ++ crlf_bytes
 unfolding print_chunk_line line_of
 line_text n = ap (λ l. l ++ crlf_bytes) (append-nil (hex n ++ []) ∙ append-nil (hex n))
 
-line_size : (n : ℕ) → n < 65536 → chunk_size (line_of n) ≡ n
+pub line_size : (n : ℕ) → n < 65536 → chunk_size (line_of n) ≡ n
 unfolding line_of
 line_size n fits = (hex_value n fits).2
 
-line_good : (n : ℕ) → n < 65536 → IsShortLine (line_of n)
+pub line_good : (n : ℕ) → n < 65536 → IsShortLine (line_of n)
 unfolding line_of
 line_good n fits =
     let value = hex_value n fits in
@@ -35,22 +36,32 @@ line_good n fits =
     } in
     record { line = line; short = omega (arith, ap length (line_text n), length-append (hex n) crlf_bytes) }
 
-chunk_of : List ℕ → Chunk
+pub chunk_of : List ℕ → Chunk
 chunk_of piece = record { line = line_of (length piece); content = piece }
 
-chunk_of_text : (piece : List ℕ) → chunk_text piece ≡ print_chunk (chunk_of piece)
+pub chunk_of_text : (piece : List ℕ) → chunk_text piece ≡ print_chunk (chunk_of piece)
 unfolding chunk_of
 chunk_of_text piece =
     sym (append_assoc (hex (length piece)) crlf_bytes (piece ++ crlf_bytes))
     ∙ ap (λ l. l ++ (piece ++ crlf_bytes)) (sym (line_text (length piece)))
 
-chunk_of_good : (piece : List ℕ) → IsPiece piece → IsChunk (chunk_of piece)
+pub chunk_of_good : (piece : List ℕ) → IsPiece piece → IsChunk (chunk_of piece)
 unfolding chunk_of
 chunk_of_good piece is = record {
   line = line_good (length piece) (omega (arith, is.1));
   size = line_size (length piece) (omega (arith, is.1));
   some = is.0;
 }
+
+pub chunk_of_content : (piece : List ℕ) → (chunk_of piece).content ≡ piece
+unfolding chunk_of
+chunk_of_content piece = refl
+
+-- its line, the piece and the end of both
+pub chunk_of_parts : (piece rest : List ℕ) → print_chunk (chunk_of piece) ++ rest
+    ≡ print_chunk_line (line_of (length piece)) ++ (piece ++ (crlf_bytes ++ rest))
+unfolding chunk_of
+chunk_of_parts piece rest = whole.chunk_text (chunk_of piece) rest
 
 chunks_text : (pieces : List (List ℕ)) → flat_map (frame_of Chunked) pieces
     ≡ print_chunks (map chunk_of pieces)
@@ -68,18 +79,20 @@ chunks_good (p ∷ ps) all =
     All-cons IsChunk (chunk_of p) (map chunk_of ps) (chunk_of_good p (All-head IsPiece p ps all))
     (chunks_good ps (All-tail IsPiece p ps all))
 
+-- the last chunk is a line and an empty one
+pub last_text : last_chunk ≡ print_chunk_line (line_of 0) ++ crlf_bytes
+last_text = sym (ap (λ l. l ++ crlf_bytes) (line_text 0) ∙ ap (λ d. d ++ crlf_bytes ++ crlf_bytes) hex_zero)
+
 pub reads_back : ReadsBack
 reads_back pieces all fits =
     let last = line_of 0 in
-    let end : codes "0\r\n\r\n" ≡ print_chunk_line last ++ crlf_bytes =
-    sym (ap (λ l. l ++ crlf_bytes) (line_text 0) ∙ ap (λ d. d ++ crlf_bytes ++ crlf_bytes) hex_zero) in
     let trailer : InTrailer (frames Chunked pieces true) (cut_body pieces) crlf_bytes = record {
       line = last;
       good = line_good 0 (omega arith);
       after = record {
         chunks = map chunk_of pieces;
         good = chunks_good pieces all;
-        text = λ i. chunks_text pieces i ++ end i;
+        text = λ i. chunks_text pieces i ++ last_text i;
         content = chunks_content pieces ∙ sym (append-nil (contents (map chunk_of pieces)));
         fits = omega (arith, fits, ap length (chunks_content pieces));
       };

@@ -45,7 +45,7 @@ after_grows size total rest more m n s t (content short some is) (content fits a
     )
 
 -- bytes that begin with a line begin with it whatever follows them
-line_stays : (tail rest more : List ℕ) (l : ChunkLine) → tail ≡ print_chunk_line l ++ rest
+pub line_stays : (tail rest more : List ℕ) (l : ChunkLine) → tail ≡ print_chunk_line l ++ rest
     → tail ++ more ≡ print_chunk_line l ++ (rest ++ more)
 line_stays tail rest more l is = ap (λ x. x ++ more) is ∙ append_assoc (print_chunk_line l) rest more
 
@@ -89,7 +89,7 @@ part_of_chunk c total tail more behind m later s good fits is (has l rest short 
 -- ---- the whole
 
 -- chunks and what follows them, and then more
-chunks_and_more : (c : Chunk) (cs : List Chunk) (tail more : List ℕ)
+pub chunks_and_more : (c : Chunk) (cs : List Chunk) (tail more : List ℕ)
     → (print_chunks (c ∷ cs) ++ tail) ++ more ≡ print_chunk c ++ ((print_chunks cs ++ tail) ++ more)
 chunks_and_more c cs tail more =
     ap (λ l. l ++ more) (append_assoc (print_chunk c) (print_chunks cs) tail)

@@ -1,22 +1,24 @@
+mod BlankLines
 mod BodyLemmas
 pub mod CheckLemmas
 pub mod CheckedRequest
 mod CutLemmas
 mod ForwardLemmas
-mod FrontLemmas
+pub mod FrontLemmas
 mod FramingLemmas
-mod HeadLemmas
+pub mod HeadLemmas
 pub mod HeaderRules
 pub mod HexLemmas
 mod LineLemmas
 pub mod PlainFields
 pub mod Refusals
-mod RequestLemmas
+pub mod RequestLemmas
 mod ResponseLemmas
 mod SectionLemmas
 mod StepLemmas
 mod TrailerLemmas
 mod TrimTwice
+pub mod FrameFronts
 pub mod FrameLemmas
 pub mod FrontBody
 pub mod OneBody
@@ -26,4 +28,7 @@ pub mod PlaceBody
 pub mod PlainForward
 pub mod SentRequest
 pub mod SentResponse
+pub mod SentBlank
+pub mod SentUpload
 pub mod Sizes
+pub mod ShortLines

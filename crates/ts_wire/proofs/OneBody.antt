@@ -184,7 +184,7 @@ last_one total tail m n s t (has l rest good is after) (has k rest' good' is' af
 
 -- ---- a whole chunk is no last part
 
-part_of_whole : (size : ℕ) (bytes part rest more : List ℕ) (s : BodyState) → size ≡ length part
+pub part_of_whole : (size : ℕ) (bytes part rest more : List ℕ) (s : BodyState) → size ≡ length part
     → bytes ≡ part ++ (crlf_bytes ++ rest) → PartIs size bytes more s → ⊥
 unfolding PartIs
 part_of_whole size bytes part rest more Unfinished len is (inl (short, same)) =

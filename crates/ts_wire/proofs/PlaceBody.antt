@@ -1,9 +1,8 @@
 -- What a reader gave is the body of what it was fed.
-use Rattle.std.proofs.Common.{◌≡◌, ℕ, ◌+◌, ◌-◌, ◌≤◌, cond, List, [], ◌∷◌, ◌++◌, length, take, drop, refl, sym, ap, subst, ◌∙◌, ⊎_elim, arith, inl, inr, append_assoc, length-append}
-use Rattle.std.specs.Prelude.{slice_range, Result, Ok, Err, IfOk}
-use Rattle.ts_link.specs.declared.octets.NoMemory.{NoMemory}
+use Rattle.std.proofs.Common.{◌≡◌, ◌≢◌, ℕ, ◌+◌, ◌-◌, ◌≤◌, Bool, true, false, cond, eqb, List, [], ◌∷◌, ◌++◌, length, take, drop, refl, sym, ap, subst, ◌∙◌, ⊎_elim, arith, inl, inr, append_assoc, length-append}
+use Rattle.std.specs.Prelude.{slice_range}
 use Rattle.std.proofs.lemmas.List.{append-nil, take_all, take_at, take-append-le, length-take, length-drop}
-use Rattle.std.proofs.lemmas.Bool.{lt-ltb, le-ltb}
+use Rattle.std.proofs.lemmas.Bool.{eqb-true, lt-ltb, le-ltb}
 use Rattle.httparse.specs.Grammar.{print_chunk_line, HasNoChunkLine, print_section}
 use Rattle.ts_wire.specs.declared.framing.Framing.{Framing}
 use Rattle.ts_wire.specs.declared.framing.Framing.TheVariants as F
@@ -14,8 +13,8 @@ use Rattle.ts_wire.specs.declared.phases.BodyPhase.TheVariants.{Counted, Open, L
 use Rattle.ts_wire.specs.declared.phases.FrontStep.{FrontStep}
 use Rattle.ts_wire.specs.Limits.{body_limit, line_limit, trailer_limit, trailer_lines}
 use Rattle.ts_wire.specs.Body.{line_feeds, AfterChunks, InChunk, InTrailer, BreaksCrlf, in_line, in_content, in_gap, in_trailer, IsEndedChunked, IsBadChunked, no_line, long_line, long_body, no_crlf, no_trailer, long_trailer, BodyOf}
-use Rattle.ts_wire.specs.Place.{Place, state_of, IsSoundPhase, StandsIn, StepsOn, IsFed, GoesOn, GivesBody}
-use Rattle.ts_wire.proofs.BodyLemmas.{no_chunks, no_line_yet, line_may_begin, grow, more_tail, more_trailer}
+use Rattle.ts_wire.specs.Place.{Place, first_phase, state_of, IsSoundPhase, StandsIn, StepsOn, IsFed, GoesOn, GivesBody}
+use Rattle.ts_wire.proofs.BodyLemmas.{no_chunks, line_may_begin, grow, more_tail, more_trailer}
 use Rattle.ts_wire.proofs.TrailerLemmas.{line_feeds-append}
 use Rattle.ts_wire.proofs.SectionLemmas.{lacks_more}
 
@@ -177,14 +176,26 @@ gives_body old new piece given state is goes framing fed body rest was none =
     (place_body framing (fed ++ piece) (body ++ given) new.held new.phase new.total now.stands now.counted
     now.sound rest (λ unfinished. none (is ∙ unfinished)))
 
--- a reader of a body in chunks that was fed nothing
-pub begins_chunked : (framing : Framing) → framing ≡ F.Chunked → (r : Result Place NoMemory)
-    → IfOk r (λ p. p ≡ record { phase = Line; held = []; total = 0 }) → IfOk r (IsFed framing [] [])
-begins_chunked framing chunked (Ok place) is =
-    subst (IsFed framing [] []) (sym is)
-    (record {
-      stands = (chunked, no_chunks, line_may_begin);
-      counted = refl;
-      sound = (omega arith, omega arith, no_line_yet);
-    })
-begins_chunked framing chunked (Err e) is = tt
+-- how it stands in its first phase
+first_stands : (framing : Framing) → framing ≢ F.Faulty → StandsIn framing [] [] [] (first_phase framing)
+first_stands F.Nothing good = (refl, refl)
+first_stands (F.Sized n) good = by_test (eqb n 0) refl
+  where
+    by_test : (t : Bool) → eqb n 0 ≡ t → StandsIn (F.Sized n) [] [] [] (cond t Ended (Counted n))
+    by_test true none = (refl, sym (eqb-true n 0 none))
+    by_test false some = (n, refl, refl, omega arith)
+first_stands F.Chunked good = (refl, no_chunks, line_may_begin)
+first_stands F.UntilClose good = (refl, refl)
+first_stands F.Faulty good = absurd (good refl)
+
+-- a reader that was fed nothing
+pub begins : (framing : Framing) (phase : BodyPhase) (held : List ℕ) (room : ℕ) → framing ≢ F.Faulty
+    → phase ≡ first_phase framing → held ≡ [] → IsSoundPhase phase [] 0
+    → IsFed framing [] [] (record { phase = phase; held = held; total = 0; room = room })
+begins framing phase held room good is none sound = record {
+  stands = subst (StandsIn framing [] [] held) (sym is)
+      (subst (λ (h : List ℕ). StandsIn framing [] [] h (first_phase framing)) (sym none)
+      (first_stands framing good));
+  counted = refl;
+  sound = subst (λ (h : List ℕ). IsSoundPhase phase h 0) (sym none) sound;
+}

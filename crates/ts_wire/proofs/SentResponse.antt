@@ -45,7 +45,7 @@ length_field n = record { name = codes "content-length"; value = plain_value (de
 abbrev coding_field : Field
 coding_field = record { name = codes "transfer-encoding"; value = plain_value (codes "chunked") }
 
-abbrev framing_fields : ClientFraming → List Field
+abbrev pub framing_fields : ClientFraming → List Field
 framing_fields Nothing = []
 framing_fields (Sized n) = length_field n ∷ []
 framing_fields Chunked = coding_field ∷ []
@@ -61,7 +61,7 @@ via_fields_text : (via : Option ℕ) → fields_text (via_fields via) ≡ via_li
 via_fields_text None = refl
 via_fields_text (Some minor) = append-nil (field_text (via_field minor)) ∙ via_text_is minor
 
-framing_fields_text : (sent : ClientFraming) → fields_text (framing_fields sent) ≡ framing_line sent
+pub framing_fields_text : (sent : ClientFraming) → fields_text (framing_fields sent) ≡ framing_line sent
 framing_fields_text Nothing = refl
 framing_fields_text (Sized n) = append-nil (field_text (length_field n))
 framing_fields_text Chunked = refl
@@ -217,7 +217,7 @@ length_plain n most =
     (All-weaker (λ b. IsTrue (is_ascii_digit b)) (λ b. IsTrue (is_value_byte b)) digit_valued (decimal n)
     (decimal_passes n most))
 
-framing_all_plain : (sent : ClientFraming) → IsSendable sent → All IsPlainField (framing_fields sent)
+pub framing_all_plain : (sent : ClientFraming) → IsSendable sent → All IsPlainField (framing_fields sent)
 framing_all_plain Nothing sendable = All-nil IsPlainField
 framing_all_plain (Sized n) sendable =
     All-cons IsPlainField (length_field n) [] (length_plain n sendable) (All-nil IsPlainField)
@@ -245,7 +245,7 @@ via_connections : (via : Option ℕ) → values_named (codes "connection") (via_
 via_connections None = refl
 via_connections (Some minor) = refl
 
-framing_connections : (sent : ClientFraming) → values_named (codes "connection") (framing_fields sent) ≡ []
+pub framing_connections : (sent : ClientFraming) → values_named (codes "connection") (framing_fields sent) ≡ []
 framing_connections Nothing = refl
 framing_connections (Sized n) = refl
 framing_connections Chunked = refl
@@ -262,7 +262,7 @@ via_codings : (via : Option ℕ) → values_named (codes "transfer-encoding") (v
 via_codings None = refl
 via_codings (Some minor) = refl
 
-framing_codings : (sent : ClientFraming) → transfer_coding
+pub framing_codings : (sent : ClientFraming) → transfer_coding
     (values_named (codes "transfer-encoding") (framing_fields sent) ++ []) ≡ coding_said sent
 unfolding trim_ows
 framing_codings Nothing = refl
@@ -286,7 +286,7 @@ via_lengths : (via : Option ℕ) → members_named (codes "content-length") (kep
 via_lengths None = refl
 via_lengths (Some minor) = refl
 
-framing_lengths : (sent : ClientFraming) → IsSendable sent
+pub framing_lengths : (sent : ClientFraming) → IsSendable sent
     → content_length (members_named (codes "content-length") (kept (framing_fields sent)) ++ [])
     ≡ length_said sent
 framing_lengths Nothing sendable = refl

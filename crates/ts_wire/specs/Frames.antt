@@ -1,8 +1,9 @@
 -- A body as it is sent on: as it is, or in chunks (RFC 9112, section 7.1).
-use Rattle.std.specs.Prelude.{ℕ, ◌/◌, ◌%◌, ◌≡◌, ◌<◌, ◌≤◌, Bool, false, true, List, [], ◌∷◌, ◌++◌, length, map, take, drop, All, flat_map, codes, if◌then◌else◌, nat_lt}
+use Rattle.std.specs.Prelude.{ℕ, ◌+◌, ◌-◌, ◌/◌, ◌%◌, ◌≡◌, ◌<◌, ◌≤◌, Bool, false, true, List, [], ◌∷◌, ◌++◌, length, map, take, drop, All, flat_map, codes, if◌then◌else◌, nat_lt}
 use Rattle.std.specs.Fmt.{digits, digit_glyph}
 use Rattle.httparse.specs.Ascii.{crlf_bytes}
 use Rattle.ts_wire.specs.declared.framing.Framing.TheVariants as F
+use Rattle.ts_wire.specs.declared.body.BodyState.{BodyState}
 use Rattle.ts_wire.specs.declared.body.BodyState.TheVariants.{Ended}
 use Rattle.ts_wire.specs.declared.frames.Mode.{Mode}
 use Rattle.ts_wire.specs.declared.frames.Mode.TheVariants.{Plain, Chunked}
@@ -57,6 +58,21 @@ abbrev pub ReadsBack : Type 0
 ReadsBack =
     (pieces : List (List ℕ)) → All IsPiece pieces → length (cut_body pieces) ≤ body_limit
     → BodyOf F.Chunked (frames Chunked pieces true) (cut_body pieces) Ended
+
+-- the bytes of the pieces that stand in the first n bytes of their frames
+abbrev pub content_in : Mode → List (List ℕ) → ℕ → List ℕ
+content_in Plain pieces n = take n (cut_body pieces)
+content_in Chunked [] n = []
+content_in Chunked (p ∷ ps) n =
+    take (n - (length (hex (length p)) + length crlf_bytes)) p
+    ++ content_in Chunked ps (n - length (chunk_text p))
+
+-- what is read of a front of what is sent in chunks are the bytes of the pieces that stand in it
+abbrev pub ReadsFronts : Type 0
+ReadsFronts =
+    (pieces : List (List ℕ)) (sent more body : List ℕ) (state : BodyState) → All IsPiece pieces
+    → length (cut_body pieces) ≤ body_limit → sent ++ more ≡ frames Chunked pieces true
+    → BodyOf F.Chunked sent body state → body ≡ content_in Chunked pieces (length sent)
 
 -- the last four hexadecimal digits of a number, and how many of them are leading zeros
 abbrev pub four_digits : ℕ → List ℕ

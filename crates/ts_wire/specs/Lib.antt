@@ -1,4 +1,5 @@
 pub mod Answers
+pub mod Blank
 pub mod Body
 pub mod Check
 pub mod FieldList
@@ -11,4 +12,5 @@ pub mod Limits
 pub mod OneHead
 pub mod Place
 pub mod Printed
+pub mod RequestEnds
 pub mod Values

@@ -62,3 +62,7 @@ no_content = 204
 
 abbrev pub not_modified : ℕ
 not_modified = 304
+
+-- how many bytes the line may have that says where a body ends
+abbrev pub framing_limit : ℕ
+framing_limit = 96

@@ -120,6 +120,21 @@ abbrev pub coding_said : ClientFraming → TransferCoding
 coding_said Chunked = C.Chunked
 coding_said _ = C.Absent
 
+-- the text is one request, with this method and target, for this host, whose body ends as its head was to say:
+-- of a length and of a coding it says that and nothing else
+pub record SendsUpload (method target host : List ℕ) (sent : ClientFraming) (text : List ℕ) : Type 0 where
+  pub head : grammar.RequestHead
+  pub one : IsOne ReadsRequest text head
+  pub lines : HasCrlfLines head.blank head.line_end head.fields head.last
+  pub method_is : head.method ≡ method
+  pub target_is : head.target ≡ target
+  pub version : head.minor ≡ 1
+  pub place : IsSentTarget target
+  pub hosts : values_read (codes "host") head.fields ≡ host ∷ []
+  pub closes : values_read (codes "connection") head.fields ≡ codes "close" ∷ []
+  pub length : length_named (map kept_field head.fields) ≡ length_said sent
+  pub coding : coding_named (map kept_field head.fields) ≡ coding_said sent
+
 -- where a reader then sees its end, in a response that may have a body
 abbrev pub framing_said : ClientFraming → Framing
 framing_said (Sized n) = F.Sized n
@@ -148,6 +163,12 @@ pub record SendsResponse (status : ℕ) (sent : ClientFraming) (text : List ℕ)
 abbrev pub IsSendable : ClientFraming → Type 0
 IsSendable (Sized n) = n ≤ body_limit
 IsSendable _ = ⊤
+
+-- the head of one request that says of no body becomes that of one whose body ends so
+abbrev pub SendsOneUpload : List ℕ → ClientFraming → List ℕ → Type 0
+SendsOneUpload request sent text =
+    (method target host : List ℕ) → SendsRequest method target host request → IsSendable sent
+    → SendsUpload method target host sent text
 
 -- fields that leave the framing to the proxy are sent to the client as one response
 abbrev pub SendsOneResponse : ℕ → List ℕ → List Field → ClientFraming → List ℕ → Type 0

@@ -1,5 +1,5 @@
 -- Where a reader of bodies stands, and what that says of the bytes that it was fed and the body that it gave.
-use Rattle.std.specs.Prelude.{◌≡◌, ◌≢◌, ℕ, ◌+◌, ◌-◌, ◌<◌, ◌≤◌, ◌⊎◌, List, [], ◌∷◌, ◌++◌, length, take, slice_range, vec_capacity, ⊤}
+use Rattle.std.specs.Prelude.{◌≡◌, ◌≢◌, ℕ, ◌+◌, ◌-◌, ◌<◌, ◌≤◌, ◌⊎◌, List, [], ◌∷◌, ◌++◌, length, take, slice_range, vec_capacity, if◌then◌else◌, ◌==◌, ⊤}
 use Rattle.httparse.specs.Ascii.{carriage_return}
 use Rattle.httparse.specs.Grammar.{HasNoChunkLine, MayBecomeChunkLine, HasNoSection, MayBecomeSection}
 use Rattle.ts_wire.specs.declared.framing.Framing.{Framing}
@@ -101,15 +101,29 @@ pub record StepsOn (old : BodyPhase) (held : List ℕ) (total : ℕ) (bytes : Li
   pub goes :
       GoesTo old held total step.phase held' (take step.taken bytes) (slice_range bytes step.from step.to)
 
--- what a contract sees of a reader: its phase, what it keeps of a chunk line or a trailer section, and how
--- long the body is so far
+-- the phase in which a body begins that ends so
+abbrev pub first_phase : Framing → BodyPhase
+first_phase F.Nothing = Ended
+first_phase (F.Sized n) = if n == 0 then Ended else Counted n
+first_phase F.Chunked = Line
+first_phase F.UntilClose = Open
+first_phase F.Faulty = Bad
+
+-- the room that a reader of such a body needs, now or later
+abbrev pub room_for : Framing → ℕ
+room_for F.Chunked = trailer_limit
+room_for _ = 0
+
+-- what a contract sees of a reader: its phase, what it keeps of a chunk line or a trailer section, how long the
+-- body is so far, and the room that it has
 pub record Place : Type 0 where
   pub phase : BodyPhase
   pub held : List ℕ
   pub total : ℕ
+  pub room : ℕ
 
 abbrev pub place_of : Inside → Place
-place_of r = record { phase = r.phase; held = r.held.items; total = r.total }
+place_of r = record { phase = r.phase; held = r.held.items; total = r.total; room = vec_capacity r.held }
 
 abbrev pub IsSoundInside : Inside → Type 0
 IsSoundInside r =

@@ -1,5 +1,5 @@
 -- The heads that are sent on, as text (RFC 9112, sections 3 to 5).
-use Rattle.std.specs.Prelude.{ℕ, Bool, ◌+◌, ◌/◌, ◌%◌, List, [], ◌∷◌, ◌++◌, Option, Some, None, if◌then◌else◌, ◌==◌, ◌&&◌, nat_lt, codes, flat_map, decimal}
+use Rattle.std.specs.Prelude.{ℕ, Bool, ◌+◌, ◌-◌, ◌/◌, ◌%◌, List, [], ◌∷◌, ◌++◌, Option, Some, None, if◌then◌else◌, ◌==◌, ◌&&◌, nat_lt, codes, flat_map, decimal, drop, length, take}
 use Rattle.std.specs.List.{list_all, list_any}
 use Rattle.httparse.specs.Ascii.{crlf_bytes}
 use Rattle.ts_wire.specs.Limits.{ascii_end}
@@ -45,6 +45,12 @@ abbrev pub framing_line : ClientFraming → List ℕ
 framing_line (Sized n) = codes "content-length: " ++ decimal n ++ crlf_bytes
 framing_line Chunked = codes "transfer-encoding: chunked\r\n"
 framing_line _ = []
+
+-- the head with this line before its last CR LF
+abbrev pub with_framing : List ℕ → ClientFraming → List ℕ
+with_framing head framing =
+    let front = length head - length crlf_bytes in
+    take front head ++ framing_line framing ++ drop front head
 
 -- the head that the client gets
 abbrev pub client_text : ℕ → List ℕ → List Field → Option ℕ → ClientFraming → List ℕ

@@ -2,7 +2,7 @@
 ghost use Rattle.std.specs.Prelude.{◌≡◌, ◌≢◌, ◌≤◌, ◌↔◌, ℕ, List, [], take, slice_range, IfOk};
 ghost use Rattle.ts_wire.specs.declared.body.BodyState.{BodyState};
 ghost use Rattle.ts_wire.specs.Body.{IsCutShort, HasOneBody, BodyGrows};
-ghost use Rattle.ts_wire.specs.Place.{room_of, state_of, IsSoundPhase, IsFed, TakesBytes, GoesOn, GivesBody};
+ghost use Rattle.ts_wire.specs.Place.{first_phase, room_for, state_of, IsSoundPhase, IsFed, TakesBytes, GoesOn, GivesBody};
 
 use crate::framing::Framing;
 use crate::phases::{BodyPhase, MAX_TRAILER, next_step};
@@ -67,33 +67,56 @@ fn state_of(phase: BodyPhase) -> BodyState
     }
 }
 
-/// A reader that begins in this phase.
-fn begin(alloc: Global, phase: BodyPhase, room: usize) -> Result<BodyReader, NoMemory>
-    requires sound { IsSoundPhase phase [] 0 }
-    requires room { room_of phase ≤ room }
-    ensures { IfOk result (λ r. r ≡ record { phase = phase; held = []; total = 0 }) }
+/// The phase in which a body begins that ends so.
+fn first_phase(framing: Framing) -> BodyPhase
+    ensures value { result ≡ first_phase framing }
+    ensures sound { IsSoundPhase result [] 0 }
 {
-    let held = Vec::with_capacity(alloc, room)?;
-    Ok(BodyReader {
-        phase,
-        held,
-        total: 0,
-    })
+    match framing {
+        Framing::Nothing | Framing::Sized(0) => BodyPhase::Ended,
+        Framing::Sized(n) => BodyPhase::Counted(n),
+        Framing::Chunked => BodyPhase::Line,
+        Framing::UntilClose => BodyPhase::Open,
+        Framing::Faulty => BodyPhase::Bad,
+    }
+}
+
+/// The room that a reader of such a body needs, now or later.
+fn room_for(framing: Framing) -> usize
+    ensures { result ≡ room_for framing }
+{
+    match framing {
+        Framing::Chunked => MAX_TRAILER,
+        _ => 0,
+    }
 }
 
 impl BodyReader {
     /// A reader that was fed nothing. It takes all the memory that it ever needs.
     pub fn make(alloc: Global, framing: Framing) -> Result<BodyReader, NoMemory>
         requires { framing ≢ Framing.Faulty }
-        ensures { IfOk result (IsFed framing [] []) }
+        ensures fed { IfOk result (IsFed framing [] []) }
+        ensures room { IfOk result (λ reader. room_for framing ≤ reader.room) }
     {
-        match framing {
-            Framing::Nothing | Framing::Sized(0) => begin(alloc, BodyPhase::Ended, 0),
-            Framing::Sized(n) => begin(alloc, BodyPhase::Counted(n), 0),
-            Framing::Chunked => begin(alloc, BodyPhase::Line, MAX_TRAILER),
-            Framing::UntilClose => begin(alloc, BodyPhase::Open, 0),
-            Framing::Faulty => unreachable!(),
-        }
+        let phase = first_phase(framing);
+        let held = Vec::with_capacity(alloc, room_for(framing))?;
+        Ok(BodyReader {
+            phase,
+            held,
+            total: 0,
+        })
+    }
+
+    /// Begins anew with a body that ends so, in the room that it has: nothing was fed.
+    pub fn restart(&mut self, framing: Framing)
+        requires framing { framing ≢ Framing.Faulty }
+        requires room { room_for framing ≤ self.old.room }
+        ensures fed { IsFed framing [] [] self.new }
+        ensures room { self.old.room ≤ self.new.room }
+    {
+        self.phase = first_phase(framing);
+        self.held.clear();
+        self.total = 0;
     }
 
     /// How far the body is.
@@ -117,6 +140,7 @@ impl BodyReader {
             (slice_range bytes.now result.from result.to) }
         ensures body { GivesBody self.old (take result.taken bytes.now)
             (slice_range bytes.now result.from result.to) result.state }
+        ensures room { self.old.room ≤ self.new.room }
     {
         let step = next_step(self.phase, &mut self.held, self.total, bytes);
         self.phase = step.phase;

@@ -1,5 +1,5 @@
 //! The request check says which requests are taken, with which target and which host.
-ghost use Rattle.std.specs.Prelude.{◌≡◌, ◌<◌, ◌≤◌, ◌∷◌, List, ℕ, length, codes, IfOk, IfSome, take, drop, Some, None, if◌then◌else◌};
+ghost use Rattle.std.specs.Prelude.{◌≡◌, ◌<◌, ◌≤◌, ◌∷◌, List, ℕ, length, codes, IfOk, IfSome, is_some, bytes_eq, ◌&&◌, take, drop, Some, None, if◌then◌else◌};
 ghost use Rattle.std.specs.List.{find, list_any, position, position_or_len};
 ghost use Rattle.std.specs.Option.{option_copied};
 ghost use Rattle.ts_wire.specs.Limits.{scheme_len};
@@ -60,7 +60,8 @@ fn host_of(fields: &[Field]) -> &[u8]
     }
 }
 
-fn has_wrong_hosts(minor: u8, hosts: usize) -> bool
+/// Whether a request of this version may not have so many Host fields.
+pub fn has_wrong_hosts(minor: u8, hosts: usize) -> bool
     ensures { result ≡ has_wrong_hosts minor hosts }
 {
     if minor == 0 { hosts > 1 } else { hosts != 1 }
@@ -180,6 +181,45 @@ fn target_parts(
         Some(rest) => absolute_parts(alloc, method, rest),
         None => Ok(None),
     }
+}
+
+/// Whether what follows `http://` begins with an authority of a host.
+fn has_authority(rest: &[u8]) -> bool
+    ensures { (method : List ℕ) → result ≡ is_some (absolute_parts method rest.now) }
+{
+    let (authority, _) = rest.split_at(authority_len(rest));
+    !(authority.is_empty() || has_at_sign(authority))
+}
+
+/// Whether the target is `*`, of an OPTIONS request.
+fn is_asterisk(method: &[u8], target: &[u8]) -> bool
+    ensures { result ≡ (bytes_eq target.now (codes "*") && bytes_eq method.now (codes "OPTIONS")) }
+{
+    target == b"*".as_slice() && method == b"OPTIONS".as_slice()
+}
+
+/// Whether the target is an absolute one, with an authority of a host.
+fn is_absolute_form(target: &[u8]) -> bool
+    ensures { (method : List ℕ) → result ≡ is_some (if is_absolute target.now
+        then absolute_parts method (drop scheme_len target.now) else None) }
+{
+    match after_scheme(target) {
+        Some(rest) => has_authority(rest),
+        None => false,
+    }
+}
+
+/// Whether the request check takes this target of a request with this method, whatever its host.
+pub fn has_form(method: &[u8], target: &[u8]) -> bool
+    ensures { (host : List ℕ) → result ≡ is_some (target_parts method.now target.now host) }
+{
+    if begins_with_slash(target) {
+        return true;
+    }
+    if is_asterisk(method, target) {
+        return true;
+    }
+    is_absolute_form(target)
 }
 
 /// Why the body that a request announces refuses it.

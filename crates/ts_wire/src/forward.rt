@@ -11,7 +11,7 @@ use std::alloc::Global;
 use ts_link::NoMemory;
 
 /// Whether the name is one of a field that ends at this hop.
-fn is_hop(name: &[u8]) -> bool
+pub fn is_hop(name: &[u8]) -> bool
     ensures { result ≡ is_hop name.now }
 {
     name == b"connection".as_slice()

@@ -2,7 +2,7 @@
 ghost use Rattle.std.specs.Prelude.{◌≡◌, ◌+◌, ◌-◌, ◌*◌, ◌/◌, ◌%◌, ◌<◌, ◌≤◌, ◌∷◌, [], length, drop, false, OnOk, OnErr};
 ghost use Rattle.std.specs.Fmt.{digit_glyph};
 ghost use Rattle.ts_iobuf.specs.Buffer.{GrowsBy};
-ghost use Rattle.ts_wire.specs.Frames.{IsPiece, frame_of, end_of, four_digits, leading_zeros, ReadsBack, CutsBack};
+ghost use Rattle.ts_wire.specs.Frames.{IsPiece, frame_of, end_of, four_digits, leading_zeros, ReadsBack, ReadsFronts, CutsBack};
 
 use ts_iobuf::IoBuffer;
 use ts_link::NoMemory;
@@ -79,8 +79,10 @@ pub fn frame_end(mode: Mode, out: &mut IoBuffer) -> Result<(), NoMemory>
     ensures grows { OnOk result (GrowsBy out.old out.new (end_of mode)) }
     ensures err { OnErr result (out.new ≡ out.old) }
 
-    // The laws that what is sent in chunks is read back, and that the pieces' lengths cut it as it was cut.
+    // The laws that what is sent in chunks is read back, and so of each front of it, and that the pieces' lengths
+    // cut it as it was cut.
     ensures read_back { ReadsBack }
+    ensures read_fronts { ReadsFronts }
     ensures cut_back { CutsBack }
 {
     match mode {

@@ -95,7 +95,8 @@ impl ContentLength {
         }
     }
 
-    fn add_members(mut self, value: &[u8]) -> ContentLength
+    /// What the fields come to with the members of this value more.
+    pub fn add_members(mut self, value: &[u8]) -> ContentLength
         ensures { result ≡ fold add_length self (members value.now) }
     {
         for part in value.split(|b| is_comma(*b)) {
@@ -116,7 +117,8 @@ impl ContentLength {
 }
 
 impl TransferCoding {
-    fn add(self, value: &[u8]) -> TransferCoding
+    /// What the fields come to with this value more, around which there are no spaces or tabs.
+    pub fn add(self, value: &[u8]) -> TransferCoding
         ensures { result ≡ add_coding self value.now }
     {
         match self {

@@ -1,12 +1,13 @@
 //! Prints the heads that are sent on: each is one head, and is read back as what it was printed from.
-ghost use Rattle.std.specs.Prelude.{◌≡◌, ◌<◌, ◌≤◌, ◌+◌, ◌*◌, ◌/◌, ◌%◌, ◌++◌, ◌∷◌, [], List, ℕ, nat_lt, decimal, codes, flat_map, IfOk, OnOk, IfSome};
+ghost use Rattle.std.specs.Prelude.{◌≡◌, ◌<◌, ◌≤◌, ◌+◌, ◌-◌, ◌*◌, ◌/◌, ◌%◌, ◌++◌, ◌∷◌, [], List, ℕ, length, nat_lt, decimal, codes, flat_map, IfOk, OnOk, IfSome};
 ghost use Rattle.std.specs.List.{list_all, list_any};
 ghost use Rattle.httparse.specs.Ascii.{crlf_bytes};
-ghost use Rattle.ts_wire.specs.Limits.{status_limit};
+ghost use Rattle.ts_wire.specs.Blank.{SentEndsBlank};
+ghost use Rattle.ts_wire.specs.Limits.{framing_limit, status_limit};
 ghost use Rattle.ts_wire.specs.FieldList.{is_named};
 ghost use Rattle.ts_wire.specs.Check.{is_absolute};
-ghost use Rattle.ts_wire.specs.OneHead.{SendsOneRequest, ForwardsUnchanged, SendsOneResponse, ForwardsPlainly};
-ghost use Rattle.ts_wire.specs.Printed.{field_text, fields_text, via_line, status_text, is_ascii_byte, reason_text, framing_line, client_text, host_text, request_field_text, missing_host_text, origin_text};
+ghost use Rattle.ts_wire.specs.OneHead.{SendsOneRequest, SendsOneUpload, ForwardsUnchanged, SendsOneResponse, ForwardsPlainly};
+ghost use Rattle.ts_wire.specs.Printed.{field_text, fields_text, via_line, status_text, is_ascii_byte, reason_text, framing_line, client_text, host_text, request_field_text, missing_host_text, origin_text, with_framing};
 
 use crate::check::is_absolute;
 use crate::fields::{Field, Fields};
@@ -17,6 +18,9 @@ use ts_link::{NoMemory, Octets};
 
 // The bytes below it are ASCII.
 const ASCII_END: u8 = 128;
+
+// How many bytes CR LF has.
+const LINE_END: usize = 2;
 
 // The room that a head is given first, in bytes; most heads fit.
 const HEAD_ROOM: usize = 512;
@@ -93,6 +97,45 @@ fn add_framing(alloc: Global, out: &mut Vec<u8>, framing: ClientFraming) -> Resu
         ClientFraming::Chunked => add(out, b"transfer-encoding: chunked\r\n"),
         ClientFraming::Sized(n) => add_length(alloc, out, n),
     }
+}
+
+fn framing_text(alloc: Global, framing: ClientFraming) -> Result<Octets, NoMemory>
+    ensures { IfOk result (λ line. line ≡ framing_line framing) }
+{
+    let mut out = Vec::new(alloc);
+    add_framing(alloc, &mut out, framing)?;
+    Ok(Octets::of_vec(out))
+}
+
+/// The line that says where a body ends, if one does.
+pub fn framing_line(alloc: Global, framing: ClientFraming) -> Result<Octets, NoMemory>
+    ensures text { IfOk result (λ line. line ≡ framing_line framing) }
+    ensures short { length (framing_line framing) ≤ framing_limit }
+{
+    framing_text(alloc, framing)
+}
+
+fn framed_text(alloc: Global, head: &[u8], framing: ClientFraming) -> Result<Octets, NoMemory>
+    ensures { IfOk result (λ text. text ≡ with_framing head.now framing) }
+{
+    let (front, end) = head.split_at(head.len().saturating_sub(LINE_END));
+    let mut out = Vec::from_slice(alloc, front)?;
+    add_framing(alloc, &mut out, framing)?;
+    add(&mut out, end)?;
+    Ok(Octets::of_vec(out))
+}
+
+/// The head with this line before its last CR LF: the head of a request whose body is sent on.
+pub fn with_framing(alloc: Global, head: &[u8], framing: ClientFraming) -> Result<Octets, NoMemory>
+    ensures text { IfOk result (λ text. text ≡ with_framing head.now framing) }
+
+    // Of the head of one request it is again one, whose body ends as this line says and as no other does.
+    ensures one_head { IfOk result (SendsOneUpload head.now framing) }
+
+    // The law that each head that is sent ends with its only empty line.
+    ensures blank { SentEndsBlank }
+{
+    framed_text(alloc, head, framing)
 }
 
 fn add(out: &mut Vec<u8>, text: &[u8]) -> Result<(), NoMemory>

@@ -57,9 +57,9 @@ pub fn run_words<
         (outcome_of (S.seen shelf.old) (task_asked words)) result (K.seen out.old) (K.seen out.new) }
     ensures line { (answer : Answer) × IsAnswerOf S.tells (S.seen shelf.old) (task_asked words) answer
         × SaysLine E.tells (E.seen err.old) (E.seen err.new) (task_asked words) result answer }
-    ensures served { LeavesNet N.Client.Link N.Origin.Link N.Origin.Upstream.own S.tells N.tells
-        (S.seen shelf.old) (S.seen shelf.new) (task_asked words) result
-        (N.seen net.old) (N.seen net.new) }
+    ensures served { LeavesNet N.Client.Link N.Origin.Link N.Origin.Upstream.own N.begins N.seen
+        S.tells N.tells (S.seen shelf.old) (S.seen shelf.new) (task_asked words) result
+        net.old net.new }
 {
     let words = match words {
         Ok(words) => words,

@@ -1,5 +1,5 @@
 //! A link that tells nothing: it owes its counts alone.
-ghost use Rattle.std.specs.Prelude.{⊤, false, None, []};
+ghost use Rattle.std.specs.Prelude.{⊤, false, true, None, []};
 
 use ts_link::{Got, Link, Put};
 
@@ -37,9 +37,14 @@ impl Link for DeafLink {
       waits = 0;
       agains = None;
       plan = None;
+      carried = [];
+      uploaded = true;
+      before = ([], []);
     } };
 
     ghost goes = { λ a b. ⊤ };
+
+    ghost still = { λ a b. ⊤ };
 
     fn read(&mut self, _into: &mut [u8]) -> Got {
         self.reads = self.reads.saturating_add(1);
@@ -59,4 +64,8 @@ impl Link for DeafLink {
     ghost stays = { λ l. tt };
 
     ghost goes_on = { λ l m n g h. tt };
+
+    ghost goes_still = { λ l m g. tt };
+
+    ghost still_on = { λ l m n g h. tt };
 }

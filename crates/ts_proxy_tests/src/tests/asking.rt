@@ -1,155 +1,40 @@
-//! How hook plugins are asked: in the order of their lines, as many as there may be, by as many transactions
-//! as there may be; and the journals of their groups.
+//! How hook plugins are asked: once at their hooks, and again where they were missed; and the journals of
+//! their groups.
 
-use super::check_all;
-use crate::command::{ON_1, ON_2, ON_8, REPLAY, replayed};
-use crate::comparison::{Comparison, compare, done, stopped};
+use crate::command::{ON_1, ON_2, ON_8, replayed};
+use crate::comparison::{Comparison, compare, done};
 use crate::moments::{handled_in, waits_of};
-use crate::parts::{add_ended, add_number};
 use crate::recording::{at_once, recording_of};
 use crate::report::{Stated, StatedEnd, report_of};
-use crate::row::{Row, check_with, compared, get};
 use crate::stated::{ABC, GET, HOSTLESS, SIZED};
 use std::alloc::Global;
+use std::process::Abort;
 use std::sync::Wait;
 use std::test::Fail;
 use std::thread::Threads;
 use ts_journal::Journal;
 use ts_link::NoMemory;
 
-// The most lines of hook plugins.
-const MOST_PLUGINS: usize = 64;
-
 // The most transactions of a recording.
 const MOST_TXNS: usize = 4_000;
 
-// So many lines that add a field to each response, with the places of the lines as values, and before the
-// first of them so many that put a byte before a body.
-fn adding(alloc: Global, plugins: usize, transforms: usize) -> Result<Vec<u8>, NoMemory> {
-    let mut config = Vec::new(alloc);
-    for place in 0..plugins {
-        if place < transforms {
-            config.extend_from_slice(b"prepend.so <\n")?;
-        }
-        add_number(&mut config, b"header.so response add x-a ", place)?;
-    }
-    Ok(config)
-}
-
-// A head with the fields of as many such lines as there may be, and these lines behind them.
-fn added_head(alloc: Global, behind: &[u8]) -> Result<Vec<u8>, NoMemory> {
-    let mut head = Vec::from_slice(alloc, b"HTTP/1.1 200 OK\r\n")?;
-    for place in 0..MOST_PLUGINS {
-        add_ended(&mut head, b"x-a: ", place, b"\r\n")?;
-    }
-    head.extend_from_slice(behind)?;
-    Ok(head)
-}
-
-// A row of the request GET under as many lines of hook plugins as there may be.
-fn under_most<'a>(config: &'a [u8], head: &'a [u8], body: &'a [u8]) -> Row<'a> {
-    Row {
-        plugins: MOST_PLUGINS,
-        ..get(config, ABC, head, StatedEnd::Whole(body))
-    }
-}
-
-// As many lines of hook plugins as there may be, alone and with as many transform lines as there may be.
-#[test]
-fn most_lines(rt: HostRuntime) -> Result<(), Fail> {
-    let alloc = rt.alloc();
-    let alone = adding(alloc, MOST_PLUGINS, 0)?;
-    let mixed = adding(alloc, MOST_PLUGINS, 16)?;
-    let sized = added_head(
-        alloc,
-        b"via: 1.1 tsx\r\ncontent-length: 3\r\nconnection: close\r\n\r\n",
-    )?;
-    let chunked = added_head(
-        alloc,
-        b"via: 1.1 tsx\r\ntransfer-encoding: chunked\r\nconnection: close\r\n\r\n",
-    )?;
-    let rows = [
-        under_most(alone.as_slice(), sized.as_slice(), b"abc"),
-        under_most(mixed.as_slice(), chunked.as_slice(), b"<<<<<<<<<<<<<<<<abc"),
-    ];
-    check_all(&rt, &rows)
-}
-
-// Whether a line of a hook plugin more than there may be, with so many transform lines, is refused with this
-// line.
-fn come_of_too_many<R: Threads + Wait + Sync>(
-    rt: &R,
-    alloc: Global,
-    transforms: usize,
-    recording: &[u8],
-    line: &[u8],
-) -> Result<Comparison, NoMemory> {
-    let config = adding(alloc, MOST_PLUGINS + 1, transforms)?;
-    compared(
-        rt,
-        alloc,
-        REPLAY,
-        config.as_slice(),
-        recording,
-        &stopped(3, line),
-    )
-}
-
-// The 65th line of a hook plugin is one too many, whatever transform lines stand between them.
-#[test]
-fn a_line_too_many(rt: HostRuntime) -> Result<(), Fail> {
-    let alloc = rt.alloc();
-    let recording = recording_of(alloc, &[])?;
-    let rows: [(usize, &[u8]); 2] = [
-        (0, b"tsx: configuration line 65: too-many\n"),
-        (16, b"tsx: configuration line 81: too-many\n"),
-    ];
-    for (transforms, line) in rows {
-        let found = come_of_too_many(&rt, alloc, transforms, recording.as_slice(), line);
-        assert_eq!(rt; found, Ok(Comparison::AsStated), "{transforms} transforms");
-    }
-    Ok(())
-}
-
-// Where there is no transaction, the groups of the plugins alone are left.
-#[test]
-fn plugins_without_transactions(rt: HostRuntime) -> Result<(), Fail> {
-    for words in [REPLAY, ON_2, ON_8] {
-        let found = check_with(
-            &rt,
-            rt.alloc(),
-            words,
-            b"denylist.so a\nheader.so request remove x",
-            2,
-            &[],
-            &[],
-        )?;
-        assert_eq!(rt; found, Comparison::AsStated, "at {words:?}");
-    }
-    Ok(())
-}
-
 // How many events each of three plugins has handled, behind four transactions; none where the command failed,
 // or other journals are left.
-fn questions_of<R: Threads + Wait + Sync>(
+fn questions_of<R: Abort + AllocGlobal + Threads + Wait + Sync>(
     rt: &R,
-    alloc: Global,
     words: &[&str],
     config: &[u8],
     recording: &[u8],
-) -> Result<[u64; 3], NoMemory> {
-    let left = replayed(rt, alloc, words, config, recording)?;
-    if left.status != 0 {
-        return Ok([0, 0, 0]);
-    }
-    Ok(match left.journals.as_slice() {
+) -> [u64; 3] {
+    let left = replayed(rt, words, config, recording);
+    match left.journals.as_slice() {
         [_, _, _, _, one, two, three] => [
             one.counts().handled,
             two.counts().handled,
             three.counts().handled,
         ],
         _ => [0, 0, 0],
-    })
+    }
 }
 
 // The journals of the plugins stand behind those of the transactions, in the order of the lines. Each plugin
@@ -167,8 +52,8 @@ fn journals_of_plugins(rt: HostRuntime) -> Result<(), Fail> {
     ];
     let recording = recording_of(rt.alloc(), &exchanges)?;
     for words in [ON_1, ON_2, ON_8] {
-        let questions = questions_of(&rt, rt.alloc(), words, config, recording.as_slice());
-        assert_eq!(rt; questions, Ok([3, 2, 1]), "at {words:?}");
+        let questions = questions_of(&rt, words, config, recording.as_slice());
+        assert_eq!(rt; questions, [3, 2, 1], "at {words:?}");
     }
     Ok(())
 }
@@ -272,19 +157,18 @@ fn make_crowd(alloc: Global) -> Result<Crowd, NoMemory> {
 }
 
 // What came of a crowd on some threads, if it left its report.
-fn came_of<R: Threads + Wait + Sync>(
+fn came_of<R: Abort + AllocGlobal + Threads + Wait + Sync>(
     rt: &R,
-    alloc: Global,
     words: &[&str],
     crowd: &Crowd,
-) -> Result<Option<Tally>, NoMemory> {
+) -> Option<Tally> {
     let config = crowd.config.as_slice();
-    let left = replayed(rt, alloc, words, config, crowd.recording.as_slice())?;
+    let left = replayed(rt, words, config, crowd.recording.as_slice());
     let wanted = done(crowd.report.as_slice(), MOST_TXNS + 1);
     if compare(&left, &wanted) != Comparison::AsStated {
-        return Ok(None);
+        return None;
     }
-    Ok(tally_of(left.journals.as_slice()))
+    tally_of(left.journals.as_slice())
 }
 
 // Whether each transaction has asked once, and has waited as often as it has handled events more than
@@ -309,13 +193,13 @@ const MOST_RUNS: usize = 20;
 #[test]
 fn a_plugin_that_is_missed(rt: HostRuntime) -> Result<(), Fail> {
     let crowd = make_crowd(rt.alloc())?;
-    let Some(calm) = came_of(&rt, rt.alloc(), ON_1, &crowd)? else {
+    let Some(calm) = came_of(&rt, ON_1, &crowd) else {
         return Err("it leaves its report on one thread")?;
     };
     assert_eq!(rt; calm.waits, 0);
-    assert!(rt; came_of(&rt, rt.alloc(), ON_2, &crowd)?.is_some());
+    assert!(rt; came_of(&rt, ON_2, &crowd).is_some());
     for _ in 0..MOST_RUNS {
-        let Some(busy) = came_of(&rt, rt.alloc(), ON_8, &crowd)? else {
+        let Some(busy) = came_of(&rt, ON_8, &crowd) else {
             return Err("it leaves its report on eight threads")?;
         };
         assert!(rt; is_counted(&busy, &calm));

@@ -1,63 +1,53 @@
-//! Of several faults the first in the order of the work decides: configuration, append files, recording, out.
+//! Files that are too long, reads and writes that fail by their numbers, and recordings that stop anywhere.
 
-use crate::command::{ON_2, REPLAY, failing_sink, left_by, shelf_of};
+use crate::command::{MEMORY, ON_2, ON_8, REPLAY, failing_sink, left_by, shelf_of, shelf_with};
 use crate::comparison::{Comparison, Wanted, compare, stopped};
 use crate::recording::{at_once, recording_of};
 use crate::report::report_of;
+use crate::row::compared;
 use crate::stated::{ABC, APPEND, GET, LESS, in_chunks};
-use std::alloc::Global;
 use std::process::Abort;
 use std::sync::Wait;
 use std::test::Fail;
 use std::thread::Threads;
-use ts_link::{MemShelf, NoMemory, OpenGate};
+use ts_link::{MemShelf, OpenGate};
 
-// A command comes to no report over this shelf, but to this status, with this line.
-fn ends<R: Abort + AllocGlobal + Threads + Wait + Sync>(
+// Whether a command comes to no report over this shelf, but to this status, with this line.
+fn ended<R: Abort + AllocGlobal + Threads + Wait + Sync>(
     rt: &R,
     shelf: MemShelf,
     status: u8,
     line: &[u8],
-) -> Result<(), Fail> {
-    let out = failing_sink(rt.alloc(), 1, 1)?;
-    let left = left_by(rt, rt.alloc(), ON_2, shelf, out, &OpenGate::make())?;
-    let found = compare(&left, &stopped(status, line));
-    assert_eq!(rt; found, Comparison::AsStated, "status {status}");
-    Ok(())
-}
-
-// Each of these shelves has one fault less than the one before, up to the output's own.
-#[test]
-fn the_first_fault_decides(rt: HostRuntime) -> Result<(), Fail> {
-    let alloc = rt.alloc();
-    let empty = MemShelf::make(alloc);
-    ends(&rt, empty, 5, b"tsx: cannot read c\n")?;
-    let mut faulty = MemShelf::make(alloc);
-    faulty.add("c", b"append_transform.so f\nfoo.so\n")?;
-    ends(&rt, faulty, 3, b"tsx: configuration line 2: plugin\n")?;
-    let mut bare = MemShelf::make(alloc);
-    bare.add("c", APPEND)?;
-    ends(&rt, bare, 5, b"tsx: cannot read f\n")?;
-    let mut unrecorded = MemShelf::make(alloc);
-    unrecorded.add("c", APPEND)?;
-    unrecorded.add("f", b"<hr>")?;
-    ends(&rt, unrecorded, 5, b"tsx: cannot read r\n")?;
-    let cut = shelf_of(alloc, APPEND, b"tsx-recording 1\n")?;
-    ends(&rt, cut, 4, b"tsx: recording offset 16\n")?;
-    let whole = shelf_of(alloc, APPEND, b"tsx-recording 1\nend\n")?;
-    ends(&rt, whole, 6, b"tsx: cannot write\n")
+) -> Comparison {
+    let out = failing_sink(rt, 1, 1);
+    let left = left_by(rt, ON_2, shelf, out, &OpenGate::make());
+    compare(&left, &stopped(status, line))
 }
 
 #[test]
 fn files_that_are_too_long(rt: HostRuntime) -> Result<(), Fail> {
-    let alloc = rt.alloc();
-    let text = vec![in alloc; b'#'; 1_048_577]?;
-    let long_config = shelf_of(alloc, text.as_slice(), b"")?;
-    ends(&rt, long_config, 9, b"tsx: too long: c\n")?;
-    let mut long_text = MemShelf::make(alloc);
-    long_text.add("c", APPEND)?;
-    long_text.add("f", text.as_slice())?;
-    ends(&rt, long_text, 9, b"tsx: too long: f\n")
+    let text = vec![in rt.alloc(); b'#'; 1_048_577]?;
+    let text = text.as_slice();
+    let config = ended(
+        &rt,
+        shelf_with(&rt, &[("c", text)]),
+        9,
+        b"tsx: too long: c\n",
+    );
+    let files = [("c", APPEND), ("f", text)];
+    let file = ended(&rt, shelf_with(&rt, &files), 9, b"tsx: too long: f\n");
+    assert_eq!(rt;
+        (config, file),
+        (Comparison::AsStated, Comparison::AsStated)
+    );
+    Ok(())
+}
+
+// A shelf whose read of this number fails, counted from 1.
+fn failing_shelf<R: Abort + AllocGlobal>(rt: &R, recording: &[u8], read: u64) -> MemShelf {
+    let mut shelf = shelf_of(rt, APPEND, recording);
+    shelf.fail_at(read).expect(rt, MEMORY);
+    shelf
 }
 
 // A read that fails is told by the name of its file.
@@ -70,45 +60,78 @@ fn reads_that_fail(rt: HostRuntime) -> Result<(), Fail> {
         b"tsx: cannot read r\n",
     ];
     for (place, line) in lines.iter().enumerate() {
-        let mut shelf = shelf_of(rt.alloc(), APPEND, recording.as_slice())?;
-        shelf.fail_at(place as u64 + 1)?;
-        ends(&rt, shelf, 5, line)?;
+        let shelf = failing_shelf(&rt, recording.as_slice(), place as u64 + 1);
+        assert_eq!(rt;
+            ended(&rt, shelf, 5, line),
+            Comparison::AsStated,
+            "read {place}"
+        );
     }
     Ok(())
 }
 
 // How many bytes are written before the write of this number fails, if all is as stated and they are a
 // front of the report.
-fn written_before<R: Threads + Wait + Sync>(
+fn written_before<R: Abort + AllocGlobal + Threads + Wait + Sync>(
     rt: &R,
-    alloc: Global,
     recording: &[u8],
     call: u64,
     report: &[u8],
-) -> Result<Option<u64>, NoMemory> {
-    let shelf = shelf_of(alloc, LESS, recording)?;
-    let out = failing_sink(alloc, 10, call)?;
-    let left = left_by(rt, alloc, REPLAY, shelf, out, &OpenGate::make())?;
+) -> Option<usize> {
+    let shelf = shelf_of(rt, LESS, recording);
+    let out = failing_sink(rt, 10, call);
+    let left = left_by(rt, REPLAY, shelf, out, &OpenGate::make());
     let front = left.out.written();
     let wanted = Wanted {
         out: front,
         ..stopped(6, b"tsx: cannot write\n")
     };
     if compare(&left, &wanted) != Comparison::AsStated || !report.starts_with(front) {
-        return Ok(None);
+        return None;
     }
-    Ok(Some(front.len() as u64))
+    Some(front.len())
 }
 
 // What is written before a write that fails is a front of the report.
 #[test]
 fn writes_that_fail(rt: HostRuntime) -> Result<(), Fail> {
-    let alloc = rt.alloc();
-    let recording = recording_of(alloc, &[at_once(GET, ABC)])?;
-    let report = report_of(alloc, &[in_chunks(b"<abc")])?;
+    let recording = recording_of(rt.alloc(), &[at_once(GET, ABC)])?;
+    let report = report_of(rt.alloc(), &[in_chunks(b"<abc")])?;
     for call in 1..22 {
-        let found = written_before(&rt, alloc, recording.as_slice(), call, report.as_slice());
-        assert_eq!(rt; found, Ok(Some(10 * call - 10)), "call {call}");
+        let found = written_before(&rt, recording.as_slice(), call as u64, report.as_slice());
+        assert_eq!(rt; found, Some(10 * call - 10), "call {call}");
+    }
+    Ok(())
+}
+
+// A recording of each version.
+const WHOLE: [&[u8]; 2] = [
+    b"tsx-recording 1\ntxn\nclient 27\nGET / HTTP/1.1\r\nHost: a\r\n\r\n\n\
+origin 41\nHTTP/1.1 200 OK\r\nContent-Length: 3\r\n\r\nabc\nclose\nend\n",
+    b"tsx-recording 2\ntxn\nclient 27\nGET / HTTP/1.1\r\nHost: a\r\n\r\n\n\
+origin-stall 3\norigin 41\nHTTP/1.1 200 OK\r\nContent-Length: 3\r\n\r\nabc\nleave 10\nclose\nend\n",
+];
+
+// Whether a front of a recording is refused where it ends, on one thread and on eight.
+fn stops<R: Abort + AllocGlobal + Threads + Wait + Sync>(
+    rt: &R,
+    front: &[u8],
+) -> (Comparison, Comparison) {
+    let offset = front.len();
+    let line = format!(in rt.alloc(); "tsx: recording offset {offset}\n").expect(rt, MEMORY);
+    let wanted = stopped(4, line.as_bytes());
+    let one = compared(rt, REPLAY, LESS, front, &wanted);
+    (one, compared(rt, ON_8, LESS, front, &wanted))
+}
+
+#[test]
+fn fronts_of_recordings(rt: HostRuntime) -> Result<(), Fail> {
+    for whole in WHOLE {
+        for length in 0..whole.len() {
+            let found = stops(&rt, whole.split_at(length).0);
+            let both = (Comparison::AsStated, Comparison::AsStated);
+            assert_eq!(rt; found, both, "front {length}");
+        }
     }
     Ok(())
 }

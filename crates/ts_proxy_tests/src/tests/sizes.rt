@@ -1,7 +1,7 @@
 //! Recordings as large as they may be: in transactions, in bytes, and in the pieces of one body.
 
 use crate::command::{
-    ON_1, ON_4, ON_64, Remains, failing_sink, left_by, replayed, shelf_of, wide_sink,
+    MEMORY, ON_1, ON_4, ON_64, Remains, failing_sink, left_by, replayed, shelf_of, wide_sink,
 };
 use crate::comparison::{Comparison, Wanted, compare, done, stopped};
 use crate::moments::late_events;
@@ -14,7 +14,7 @@ use std::process::Abort;
 use std::sync::Wait;
 use std::test::Fail;
 use std::thread::Threads;
-use ts_link::{MemShelf, NoMemory, OpenGate};
+use ts_link::{NoMemory, OpenGate};
 
 // The most transactions of a recording.
 const MOST_TXNS: usize = 4_000;
@@ -52,19 +52,10 @@ fn response_of(alloc: Global, body: &[u8]) -> Result<Vec<u8>, NoMemory> {
 // As many transactions as there may be, each with a body, on 1, 4 and 64 threads.
 #[test]
 fn most_transactions(rt: HostRuntime) -> Result<(), Fail> {
-    let alloc = rt.alloc();
-    let exchanges = vec![in alloc; at_once(GET, ABC); MOST_TXNS]?;
-    let stated = vec![in alloc; in_chunks(b"<abc"); MOST_TXNS]?;
+    let exchanges = vec![in rt.alloc(); at_once(GET, ABC); MOST_TXNS]?;
+    let stated = vec![in rt.alloc(); in_chunks(b"<abc"); MOST_TXNS]?;
     for words in [ON_1, ON_4, ON_64] {
-        let found = check_with(
-            &rt,
-            alloc,
-            words,
-            LESS,
-            0,
-            exchanges.as_slice(),
-            stated.as_slice(),
-        )?;
+        let found = check_with(&rt, words, LESS, 0, exchanges.as_slice(), stated.as_slice());
         assert_eq!(rt; found, Comparison::AsStated, "at {words:?}");
     }
     Ok(())
@@ -74,13 +65,11 @@ fn most_transactions(rt: HostRuntime) -> Result<(), Fail> {
 // event of a group that a thread had missed would be handled 10 ms later.
 #[test]
 fn no_transaction_is_missed(rt: HostRuntime) -> Result<(), Fail> {
-    let alloc = rt.alloc();
-    let exchanges = vec![in alloc; at_once(GET, ABC); MOST_TXNS]?;
-    let recording = recording_of(alloc, exchanges.as_slice())?;
-    let left = replayed(&rt, alloc, ON_4, LESS, recording.as_slice())?;
-    assert_eq!(rt; left.status, 0);
-    assert_eq!(rt; left.journals.len(), MOST_TXNS);
-    assert_eq!(rt; late_events(left.journals.as_slice()), 0);
+    let exchanges = vec![in rt.alloc(); at_once(GET, ABC); MOST_TXNS]?;
+    let recording = recording_of(rt.alloc(), exchanges.as_slice())?;
+    let left = replayed(&rt, ON_4, LESS, recording.as_slice());
+    let late = late_events(left.journals.as_slice());
+    assert_eq!(rt; (left.status, left.journals.len(), late), (0, MOST_TXNS, 0));
     Ok(())
 }
 
@@ -91,16 +80,14 @@ null_transform.so\nnull_transform.so\nnull_transform.so\nnull_transform.so\n\
 null_transform.so\nnull_transform.so\nnull_transform.so\nnull_transform.so\n";
 
 // Whether a body comes through them as it is, where the origin gives it in pieces of so many bytes.
-fn pass_on<R: Threads + Wait + Sync>(
+fn pass_on<R: Abort + AllocGlobal + Threads + Wait + Sync>(
     rt: &R,
-    alloc: Global,
     body: &[u8],
     piece: usize,
-) -> Result<Comparison, NoMemory> {
-    let response = response_of(alloc, body)?;
+) -> Comparison {
+    let response = response_of(rt.alloc(), body).expect(rt, MEMORY);
     let exchange = in_pieces(at_once(GET, response.as_slice()), piece);
-    let stated = in_chunks(body);
-    check_with(rt, alloc, ON_4, NULLS, 0, &[exchange], &[stated])
+    check_with(rt, ON_4, NULLS, 0, &[exchange], &[in_chunks(body)])
 }
 
 // A body of 1 MiB, in pieces as large as they may be and in smaller ones, through as many lines as there may
@@ -109,23 +96,25 @@ fn pass_on<R: Threads + Wait + Sync>(
 fn a_large_body(rt: HostRuntime) -> Result<(), Fail> {
     let body = letters(rt.alloc(), MIB)?;
     for piece in [MOST_PIECE, 1_000] {
-        let found = pass_on(&rt, rt.alloc(), body.as_slice(), piece);
-        assert_eq!(rt; found, Ok(Comparison::AsStated), "pieces of {piece}");
+        let found = pass_on(&rt, body.as_slice(), piece);
+        assert_eq!(rt; found, Comparison::AsStated, "pieces of {piece}");
     }
     Ok(())
 }
 
 // What is left of five transactions with this body, where the second write into out fails.
-fn left_of_five<R: Threads + Wait + Sync>(
-    rt: &R,
-    alloc: Global,
-    body: &[u8],
-) -> Result<Remains, NoMemory> {
-    let response = response_of(alloc, body)?;
-    let recording = recording_of(alloc, &[at_once(GET, response.as_slice()); 5])?;
-    let shelf = shelf_of(alloc, b"", recording.as_slice())?;
-    let out = failing_sink(alloc, usize::MAX, 2)?;
-    left_by(rt, alloc, ON_4, shelf, out, &OpenGate::make())
+fn left_of_five<R: Abort + AllocGlobal + Threads + Wait + Sync>(rt: &R, body: &[u8]) -> Remains {
+    let response = response_of(rt.alloc(), body).expect(rt, MEMORY);
+    let five = [at_once(GET, response.as_slice()); 5];
+    let recording = recording_of(rt.alloc(), &five).expect(rt, MEMORY);
+    let shelf = shelf_of(rt, b"", recording.as_slice());
+    left_by(
+        rt,
+        ON_4,
+        shelf,
+        failing_sink(rt, usize::MAX, 2),
+        &OpenGate::make(),
+    )
 }
 
 // A report goes out whenever 64 KiB of it are there. The lines on three of these bodies come to more:
@@ -134,14 +123,14 @@ fn left_of_five<R: Threads + Wait + Sync>(
 fn a_report_in_two_writes(rt: HostRuntime) -> Result<(), Fail> {
     let body = letters(rt.alloc(), 30_000)?;
     let three = report_of(rt.alloc(), &[in_chunks(body.as_slice()); 3])?;
-    let left = left_of_five(&rt, rt.alloc(), body.as_slice())?;
+    let left = left_of_five(&rt, body.as_slice());
     let front = left.out.written();
     let wanted = Wanted {
         out: front,
         ..stopped(6, b"tsx: cannot write\n")
     };
-    assert_eq!(rt; compare(&left, &wanted), Comparison::AsStated);
-    assert_eq!(rt; front.len() + DONE.len(), three.len());
+    let seen = (compare(&left, &wanted), front.len() + DONE.len());
+    assert_eq!(rt; seen, (Comparison::AsStated, three.len()));
     assert!(rt; three.as_slice().starts_with(front));
     Ok(())
 }
@@ -160,27 +149,25 @@ fn recording_with(alloc: Global, response: &[u8], last: &[u8]) -> Result<Vec<u8>
     recording_of(alloc, exchanges.as_slice())
 }
 
-// The shelf with the recording of responses with these bodies, and how long that is.
-fn filled_shelf(alloc: Global, body: &[u8], last: &[u8]) -> Result<(MemShelf, usize), NoMemory> {
+// The recording of responses with these bodies.
+fn filled_recording(alloc: Global, body: &[u8], last: &[u8]) -> Result<Vec<u8>, NoMemory> {
     let response = response_of(alloc, body)?;
     let last = response_of(alloc, last)?;
-    let recording = recording_with(alloc, response.as_slice(), last.as_slice())?;
-    let shelf = shelf_of(alloc, b"null_transform.so", recording.as_slice())?;
-    Ok((shelf, recording.len()))
+    recording_with(alloc, response.as_slice(), last.as_slice())
 }
 
 // What replaying responses with these bodies leaves on 4 threads, where the recording is as long as it may
 // be, or one byte longer.
-fn filled<R: Abort + Threads + Wait + Sync>(
+fn filled<R: Abort + AllocGlobal + Threads + Wait + Sync>(
     rt: &R,
-    alloc: Global,
     body: &[u8],
     last: &[u8],
-) -> Result<Remains, NoMemory> {
-    let (shelf, length) = filled_shelf(alloc, body, last)?;
+) -> Remains {
+    let recording = filled_recording(rt.alloc(), body, last).expect(rt, MEMORY);
     let full = MOST_RECORDING.saturating_add(last.len());
-    assert_eq!(rt; length.saturating_add(LAST_BODY), full);
-    left_by(rt, alloc, ON_4, shelf, wide_sink(alloc), &OpenGate::make())
+    assert_eq!(rt; recording.len().saturating_add(LAST_BODY), full);
+    let shelf = shelf_of(rt, b"null_transform.so", recording.as_slice());
+    left_by(rt, ON_4, shelf, wide_sink(rt), &OpenGate::make())
 }
 
 // The report on them.
@@ -196,8 +183,8 @@ fn most_bytes(rt: HostRuntime) -> Result<(), Fail> {
     let alloc = rt.alloc();
     let body = letters(alloc, EQUAL_BODY)?;
     let last = letters(alloc, LAST_BODY)?;
-    let left = filled(&rt, alloc, body.as_slice(), last.as_slice())?;
     let report = filled_report(alloc, body.as_slice(), last.as_slice())?;
+    let left = filled(&rt, body.as_slice(), last.as_slice());
     let wanted = done(report.as_slice(), EQUAL + 1);
     assert_eq!(rt; compare(&left, &wanted), Comparison::AsStated);
     Ok(())
@@ -209,7 +196,7 @@ fn one_byte_too_many(rt: HostRuntime) -> Result<(), Fail> {
     let alloc = rt.alloc();
     let body = letters(alloc, EQUAL_BODY)?;
     let last = letters(alloc, LAST_BODY + 1)?;
-    let left = filled(&rt, alloc, body.as_slice(), last.as_slice())?;
+    let left = filled(&rt, body.as_slice(), last.as_slice());
     let wanted = stopped(9, b"tsx: too long: r\n");
     assert_eq!(rt; compare(&left, &wanted), Comparison::AsStated);
     Ok(())

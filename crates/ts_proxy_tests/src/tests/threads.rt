@@ -1,9 +1,7 @@
-//! What many threads make of a recording: the same report, with and without hook plugins, each journal in its
-//! place, two handlers beside each other.
+//! What many threads make of a recording: the same report at each of fifty runs, each journal in its place, two
+//! handlers beside each other.
 
-use crate::command::{
-    ON_1, ON_2, ON_4, ON_8, ON_64, REPLAY, Remains, left_by, replayed, shelf_of, wide_sink,
-};
+use crate::command::{MEMORY, ON_1, ON_2, ON_4, Remains, left_by, replayed, shelf_of, wide_sink};
 use crate::comparison::{Comparison, compare, done};
 use crate::recording::{Exchange, at_once, in_pieces, recording_of};
 use crate::report::{Stated, StatedEnd, report_of};
@@ -13,11 +11,11 @@ use crate::stated::{
     ABC, BAD_CHUNKS, BAD_GATEWAY, BAD_REQUEST, CHUNKED, CUT, GET, HOSTLESS, LESS, NOTHING, PAGE,
     USUAL, in_chunks, paged, passed, unasked,
 };
-use std::alloc::Global;
+use std::process::Abort;
 use std::sync::Wait;
 use std::test::Fail;
 use std::thread::Threads;
-use ts_link::{MeetGate, NoMemory};
+use ts_link::MeetGate;
 
 // A byte before a body, and then a pause at each event.
 const DELAYED: &[u8] = b"prepend.so <\ndelay.so 20";
@@ -54,71 +52,53 @@ fn of_mixed() -> [Stated<'static>; 8] {
     ]
 }
 
-// On any number of threads the report is the same.
-#[test]
-fn threads_change_nothing(rt: HostRuntime) -> Result<(), Fail> {
-    for words in [REPLAY, ON_1, ON_2, ON_4, ON_8, ON_64] {
-        let found = check_with(&rt, rt.alloc(), words, DELAYED, 0, &mixed(), &of_mixed())?;
-        assert_eq!(rt; found, Comparison::AsStated, "at {words:?}");
-        let found = check_with(&rt, rt.alloc(), words, ASKING, 4, &mixed(), &of_mixed())?;
-        assert_eq!(rt; found, Comparison::AsStated, "asking at {words:?}");
-    }
-    Ok(())
-}
-
 // Of fifty runs each writes the same.
 #[test]
 fn fifty_runs(rt: HostRuntime) -> Result<(), Fail> {
     for run in 0..50 {
-        let found = check_with(&rt, rt.alloc(), ON_4, ASKING, 4, &mixed(), &of_mixed())?;
+        let found = check_with(&rt, ON_4, ASKING, 4, &mixed(), &of_mixed());
         assert_eq!(rt; found, Comparison::AsStated, "run {run}");
     }
     Ok(())
 }
 
 // What two equal transactions leave on two threads, whose handlers pass this gate.
-fn two_left_by<R: Threads + Wait + Sync>(
-    rt: &R,
-    alloc: Global,
-    gate: &MeetGate,
-) -> Result<Remains, NoMemory> {
-    let recording = recording_of(alloc, &[at_once(GET, ABC), at_once(GET, ABC)])?;
-    let shelf = shelf_of(alloc, LESS, recording.as_slice())?;
-    left_by(rt, alloc, ON_2, shelf, wide_sink(alloc), gate)
-}
-
-// Whether they left what they are to leave.
-fn compare_two(alloc: Global, left: &Remains) -> Result<Comparison, NoMemory> {
-    let report = report_of(alloc, &[in_chunks(b"<abc"), in_chunks(b"<abc")])?;
-    Ok(compare(left, &done(report.as_slice(), 2)))
+fn two_left_by<R: Abort + AllocGlobal + Threads + Wait + Sync>(rt: &R, gate: &MeetGate) -> Remains {
+    let twice = [at_once(GET, ABC), at_once(GET, ABC)];
+    let recording = recording_of(rt.alloc(), &twice).expect(rt, MEMORY);
+    let shelf = shelf_of(rt, LESS, recording.as_slice());
+    left_by(rt, ON_2, shelf, wide_sink(rt), gate)
 }
 
 // Two equal transactions, each of which waits in its first handler for the other: the first events of the two
 // were handled under different seats.
 #[test]
 fn two_transactions_run_beside_each_other(rt: HostRuntime) -> Result<(), Fail> {
+    let report = report_of(rt.alloc(), &[in_chunks(b"<abc"), in_chunks(b"<abc")])?;
     let gate = MeetGate::make(20_000_000);
-    let left = two_left_by(&rt, rt.alloc(), &gate)?;
-    assert!(rt; gate.met());
-    let found = compare_two(rt.alloc(), &left);
-    assert_eq!(rt; found, Ok(Comparison::AsStated));
-    assert!(rt; are_of_two_seats(left.journals.as_slice()));
+    let left = two_left_by(&rt, &gate);
+    let found = compare(&left, &done(report.as_slice(), 2));
+    let seen = (
+        gate.met(),
+        found,
+        are_of_two_seats(left.journals.as_slice()),
+    );
+    assert_eq!(rt; seen, (true, Comparison::AsStated, true));
     Ok(())
 }
 
 // Whether a recording leaves three journals, the second of which has handled many events, and the others few.
-fn stands_between<R: Threads + Wait + Sync>(
+fn stands_between<R: Abort + AllocGlobal + Threads + Wait + Sync>(
     rt: &R,
-    alloc: Global,
     words: &[&str],
     recording: &[u8],
-) -> Result<bool, NoMemory> {
-    let left = replayed(rt, alloc, words, DELAYED, recording)?;
+) -> bool {
+    let left = replayed(rt, words, DELAYED, recording);
     let [before, between, behind] = left.journals.as_slice() else {
-        return Ok(false);
+        return false;
     };
     let few = before.counts().handled < 20 && behind.counts().handled < 20;
-    Ok(few && between.counts().handled > 200)
+    few && between.counts().handled > 200
 }
 
 // The journal of a transaction that passes many pieces on stands between those of two that do next to
@@ -129,8 +109,8 @@ fn journals_stand_in_the_order_of_their_transactions(rt: HostRuntime) -> Result<
     let exchanges = [at_once(b"", b""), drips, at_once(b"", b"")];
     let recording = recording_of(rt.alloc(), &exchanges)?;
     for words in [ON_1, ON_4] {
-        let found = stands_between(&rt, rt.alloc(), words, recording.as_slice());
-        assert_eq!(rt; found, Ok(true), "at {words:?}");
+        let found = stands_between(&rt, words, recording.as_slice());
+        assert!(rt; found, "at {words:?}");
     }
     Ok(())
 }

@@ -1,5 +1,5 @@
-//! The table of faults: recordings and responses that stop anywhere, sinks, files and links that fail or
-//! wait, and what each of them comes to, on one thread and on more.
+//! The table of faults: sinks, files and links that fail or wait by the numbers of their calls, and what each of
+//! them comes to, on one thread and on more.
 ghost use Rattle.std.specs.Prelude.{IfOk};
 ghost use Rattle.ts_txn.specs.MemNet.{seen_of};
 ghost use Rattle.ts_txn.specs.Net.{IsFreshNet};
@@ -20,17 +20,6 @@ use ts_serve_tests::stated::{ABC, BAD_GATEWAY, CHUNKED, GET, SIZED};
 use ts_serve_tests::visit::{Visit, page, unreached};
 use ts_txn::{MemNet, Retired};
 
-// The report where its origin gives no whole head.
-const ANSWERED: &[u8] = b"tsx-report 1\ntxn 1\nrequest 60\nGET / HTTP/1.1\r\nhost: a\r\n\
-via: 1.1 tsx\r\nconnection: close\r\n\r\n\nend whole\nhead 93\nHTTP/1.1 502 Bad Gateway\r\n\
-content-type: text/plain\r\ncontent-length: 16\r\nconnection: close\r\n\r\n\n\
-body 16\n502 Bad Gateway\n\ndone\n";
-
-// The report where it gives a whole head and not its whole body.
-const CUT: &[u8] = b"tsx-report 1\ntxn 1\nrequest 60\nGET / HTTP/1.1\r\nhost: a\r\n\
-via: 1.1 tsx\r\nconnection: close\r\n\r\n\nend cut\nhead 80\nHTTP/1.1 200 OK\r\nvia: 1.1 tsx\r\n\
-transfer-encoding: chunked\r\nconnection: close\r\n\r\n\ndone\n";
-
 // What a command is to leave: its status, what out takes, and what is said.
 #[derive(Clone, Copy)]
 struct Wanted<'a> {
@@ -39,12 +28,11 @@ struct Wanted<'a> {
     says: &'a [u8],
 }
 
-// A command left what it is to leave.
-fn is_left(rt: &impl Abort, left: &Remains<MemNet>, wanted: &Wanted<'_>) -> Result<(), Fail> {
-    assert_eq!(rt; left.status, wanted.status);
-    assert_eq!(rt; left.out.written(), wanted.out);
-    assert_eq!(rt; left.err.written(), wanted.says);
-    Ok(())
+// Whether a command left what it is to leave.
+fn is_left(left: &Remains<MemNet>, wanted: &Wanted<'_>) -> bool {
+    left.status == wanted.status
+        && left.out.written() == wanted.out
+        && left.err.written() == wanted.says
 }
 
 // A net to which nobody comes.
@@ -54,79 +42,37 @@ fn nobody(alloc: Global) -> Result<MemNet, NoMemory>
     net_of(alloc, &[], &[], &[])
 }
 
-// A recording of one transaction, with this number as the length of the request and this response, if any.
-fn recording_of(alloc: Global, length: &[u8], response: &[u8]) -> Result<Vec<u8>, NoMemory> {
-    let mut text = Vec::from_slice(alloc, b"tsx-recording 1\ntxn\nclient ")?;
-    text.extend_from_slice(length)?;
-    text.extend_from_slice(b"\n")?;
-    text.extend_from_slice(GET)?;
-    text.extend_from_slice(b"\n")?;
-    if !response.is_empty() {
-        let count = response.len();
-        let line = format!(in alloc; "origin {count}\n")?;
-        text.extend_from_slice(line.as_bytes())?;
-        text.extend_from_slice(response)?;
-        text.extend_from_slice(b"\n")?;
-    }
-    text.extend_from_slice(b"close\nend\n")?;
-    Ok(text)
-}
+// Why a run has no outcome.
+const MEMORY: &str = "memory lacks";
 
-// A recording comes to this, on 1 thread and on 8.
-fn replays<R: Abort + AllocGlobal + Threads + Wait + Sync>(
-    rt: &R,
-    recording: &[u8],
-    wanted: &Wanted<'_>,
-) -> Result<(), Fail> {
-    let alloc = rt.alloc();
-    for threads in ["1", "8"] {
-        let mut shelf = MemShelf::make(alloc);
-        shelf.add("c", LESS)?;
-        shelf.add("r", recording)?;
-        let words = ["replay", "--threads", threads, "c", "r"];
-        let net = nobody(alloc)?;
-        let gate = OpenGate::make();
-        let left = left_by(rt, alloc, &words, shelf, net, wide_sink(alloc), &gate)?;
-        is_left(rt, &left, wanted)?;
-    }
-    Ok(())
-}
-
-// A recording is refused at this offset.
-fn is_refused<R: Abort + AllocGlobal + Threads + Wait + Sync>(
-    rt: &R,
-    recording: &[u8],
-    offset: usize,
-) -> Result<(), Fail> {
-    let line = format!(in rt.alloc(); "tsx: recording offset {offset}\n")?;
-    let wanted = Wanted {
-        status: 4,
-        out: b"",
-        says: line.as_bytes(),
-    };
-    replays(rt, recording, &wanted)
-}
-
-// A body of `abc` with `XY` behind it comes to this, where the read and the write of these numbers fail,
-// counted from 1, and out takes one byte a write.
+// Whether a body of `abc` with `XY` behind it comes to this, where the read and the write of these numbers
+// fail, counted from 1, and out takes one byte a write.
 fn transforms<R: Abort + AllocGlobal + Threads + Wait + Sync>(
     rt: &R,
     read: u64,
     write: u64,
     wanted: &Wanted<'_>,
-) -> Result<(), Fail> {
+) -> bool {
     let alloc = rt.alloc();
+    let failing = vec![in alloc; write].expect(rt, MEMORY);
     let mut shelf = MemShelf::make(alloc);
-    shelf.add("c", b"append_transform.so tail.txt")?;
-    shelf.add("tail.txt", b"XY")?;
-    shelf.add("b", b"abc")?;
-    shelf.fail_at(read)?;
-    let out = MemSink::make(alloc, 1, vec![in alloc; write]?);
+    for (name, text) in FILES {
+        shelf.add(name, text).expect(rt, MEMORY);
+    }
+    shelf.fail_at(read).expect(rt, MEMORY);
+    let net = nobody(alloc).expect(rt, MEMORY);
+    let out = MemSink::make(alloc, 1, failing);
     let words = ["transform", "c", "b"];
-    let net = nobody(alloc)?;
-    let left = left_by(rt, alloc, &words, shelf, net, out, &OpenGate::make())?;
-    is_left(rt, &left, wanted)
+    let left = left_by(rt, alloc, &words, shelf, net, out, &OpenGate::make()).expect(rt, MEMORY);
+    is_left(&left, wanted)
 }
+
+// The files of that command.
+const FILES: [(&str, &[u8]); 3] = [
+    ("c", b"append_transform.so tail.txt"),
+    ("tail.txt", b"XY"),
+    ("b", b"abc"),
+];
 
 // Clients that are served with a line that acts.
 fn through_a_line<'a>(visits: &'a [Visit<'a>]) -> Row<'a> {
@@ -176,41 +122,6 @@ fn waits<R: Abort + AllocGlobal + Threads + Wait + Sync>(
 }
 
 #[test]
-fn truncated_recordings(rt: HostRuntime) -> Result<(), Fail> {
-    let text = recording_of(rt.alloc(), b"27", ABC)?;
-    assert_eq!(rt; text.len(), 120);
-    for length in 0..text.len() {
-        let (front, _) = text.as_slice().split_at(length);
-        is_refused(&rt, front, length)?;
-    }
-    Ok(())
-}
-
-// Of the greater one four digits are still the front of a length within its limits.
-#[test]
-fn recorded_lengths_that_are_too_small_or_too_great(rt: HostRuntime) -> Result<(), Fail> {
-    let small = recording_of(rt.alloc(), b"0", ABC)?;
-    is_refused(&rt, small.as_slice(), 27)?;
-    let great = recording_of(rt.alloc(), b"40000", ABC)?;
-    is_refused(&rt, great.as_slice(), 31)
-}
-
-#[test]
-fn truncated_responses(rt: HostRuntime) -> Result<(), Fail> {
-    for length in 0..ABC.len() {
-        let (front, _) = ABC.split_at(length);
-        let wanted = Wanted {
-            status: 0,
-            out: if length < 38 { ANSWERED } else { CUT },
-            says: b"",
-        };
-        let text = recording_of(rt.alloc(), b"27", front)?;
-        replays(&rt, text.as_slice(), &wanted)?;
-    }
-    Ok(())
-}
-
-#[test]
 fn a_sink_that_fails_at_each_write(rt: HostRuntime) -> Result<(), Fail> {
     let text: &[u8] = b"abcXY";
     for written in 0..text.len() {
@@ -220,14 +131,15 @@ fn a_sink_that_fails_at_each_write(rt: HostRuntime) -> Result<(), Fail> {
             out,
             says: b"tsx: cannot write\n",
         };
-        transforms(&rt, 0, written as u64 + 1, &wanted)?;
+        assert!(rt; transforms(&rt, 0, written as u64 + 1, &wanted));
     }
     let whole = Wanted {
         status: 0,
         out: text,
         says: b"",
     };
-    transforms(&rt, 0, 6, &whole)
+    assert!(rt; transforms(&rt, 0, 6, &whole));
+    Ok(())
 }
 
 #[test]
@@ -243,7 +155,7 @@ fn a_file_that_fails_at_each_read(rt: HostRuntime) -> Result<(), Fail> {
             out: b"",
             says: *says,
         };
-        transforms(&rt, place as u64 + 1, 0, &wanted)?;
+        assert!(rt; transforms(&rt, place as u64 + 1, 0, &wanted));
     }
     Ok(())
 }

@@ -1,8 +1,8 @@
 -- The slots have the tags of a row, of which the first is that of a transaction.
 use Rattle.std.proofs.Common.{sym, subst}
 use Rattle.ts_slot.specs.Words.{tags_of}
-use Rattle.ts_exchange_tests.specs.Begun.{HasRowTags}
-use Rattle.ts_exchange_tests.proofs.Rows.{row_starts}
+use Rattle.ts_mishap_tests.specs.Begun.{HasRowTags}
+use Rattle.ts_mishap_tests.proofs.Rows.{row_starts}
 use Rattle.ts_mishap_tests.proofs.misses.open.Goals as goal
 
 pub start_groups-requires-clause-tags : goal.start_groups-requires-clause-tags

@@ -2,7 +2,7 @@
 use Rattle.ts_slot.specs.Words.{tags_of}
 use Rattle.ts_stock.specs.StockTransform.{stock_transform}
 use Rattle.ts_upstream.specs.InMemory.{memory_link, memory_origin}
-use Rattle.ts_exchange_tests.proofs.Rows.{row_can_ask}
+use Rattle.ts_mishap_tests.proofs.Rows.{row_can_ask}
 use Rattle.ts_mishap_tests.proofs.misses.take_turn.Goals as goal
 
 pub turn-requires : goal.turn-requires

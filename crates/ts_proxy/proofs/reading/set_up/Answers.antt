@@ -1,11 +1,15 @@
--- The file of a failed read is one that the lines of the configuration name.
-use Rattle.ts_config.specs.Setup.{lines_of}
-use Rattle.ts_proxy.proofs.Filling.{comes-read}
+-- The lines that were read stay few and plain when they are filled.
+use Rattle.std.proofs.Common.{◌≡◌, None, ap, sym, ◌∙◌}
+use Rattle.ts_proxy.specs.Idle.{first_idle}
+use Rattle.ts_proxy.proofs.FilledLines.{plain-filled, plain-read}
 use Rattle.ts_proxy.proofs.reading.set_up.Goals as goal
 
-pub returns-in-Ok-read_config-clause-named : goal.returns-in-Ok-read_config-clause-named
-returns-in-Ok-read_config-clause-named g c = λ tells.
-    comes-read (g.S.Shelf.seen c.args.shelf.now) (g.S.Shelf.seen c.read.new.self).file c.args.config.now
-    c.in-Ok.bytes (lines_of c.in-Ok-read_config.setup) c.fill_setup.result (c.in-Ok.ensures.told tells)
-    c.in-Ok.ensures.limit (rw c.bytes-2.ensures at c.in-Ok-read_config.ensures.value)
-    (c.in-Ok.ensures.files tells) (c.fill_setup.ensures.named tells)
+pub returns-in-Ok-None-clause-lines : goal.returns-in-Ok-None-clause-lines
+returns-in-Ok-None-clause-lines g c =
+    let same = ap first_idle (c.bytes-2.ensures ∙ sym c.bytes-in-Ok-read_config.ensures) in
+    let found = c.in-Ok-None.ensures in
+    let is = c.in-Ok-None.field-0-is in
+    let acts : first_idle c.bytes-2.result.now ≡ None = cc in
+    plain-filled c.in-Ok-read_config.setup c.fill_setup.result c.fill_setup.ensures.lines
+    (plain-read c.bytes-2.result.now c.in-Ok-read_config.setup c.in-Ok-read_config.ensures.read
+    c.in-Ok-read_config.ensures.rules acts)

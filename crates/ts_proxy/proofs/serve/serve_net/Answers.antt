@@ -2,8 +2,8 @@
 use Rattle.std.proofs.Common.{subst}
 use Rattle.ts_config.specs.declared.setup.Setup.{Setup}
 use Rattle.ts_serve.specs.Served.{AreRetired}
-use Rattle.ts_serve.specs.Transactions.{IsTxnDone}
-use Rattle.ts_serve.specs.declared.door.TheConstants.{PLACES}
+use Rattle.ts_serve.specs.Exchanges.{IsTxnDone}
+use Rattle.ts_serve.specs.declared.acceptor.TheConstants.{PLACES}
 use Rattle.ts_stock.specs.StockTransform.{stock_transform}
 use Rattle.ts_txn.specs.declared.retired.Retired.{Retired}
 use Rattle.ts_proxy.proofs.Serving.{retired-since}

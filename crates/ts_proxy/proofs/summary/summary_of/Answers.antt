@@ -1,7 +1,7 @@
 -- The next block is counted, and at the end all of them are.
 use Rattle.std.proofs.Common.{◌+◌, ◌∷◌, ap, arith, drop, length, refl, sym, ◌∙◌}
 use Rattle.std.proofs.lemmas.List.{drop_more}
-use Rattle.ts_proxy.specs.Summary.{sum_of}
+use Rattle.ts_record.specs.Sum.{sum_of}
 use Rattle.ts_proxy.proofs.Summing.{summed_all, summed_more}
 use Rattle.ts_proxy.proofs.summary.summary_of.Goals as goal
 

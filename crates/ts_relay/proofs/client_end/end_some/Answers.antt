@@ -7,10 +7,11 @@ use Rattle.std.specs.Arc.{arc_value}
 use Rattle.ts_phases.specs.View.{OriginRefuses, view_of}
 use Rattle.ts_relay.specs.Finishing.{IsFinishing}
 use Rattle.ts_relay.proofs.BodyLinks.{calm_short, writer_queued, writer_rests}
-use Rattle.ts_relay.proofs.Early.{rests_soon}
+use Rattle.ts_passing.proofs.Early.{rests_soon}
 use Rattle.ts_relay.proofs.LoweringRelay.{lowers_whole, queues_lacks}
 use Rattle.ts_relay.proofs.Relaying.{ends_short, ends_whole, frames_lacks}
-use Rattle.ts_relay.proofs.StepsOwed.{keeps_same, writer_still}
+use Rattle.ts_relay.proofs.StepsOwed.{writer_still}
+use Rattle.ts_phases.proofs.Owed.{all_kept}
 use Rattle.ts_relay.proofs.client_end.end_some.Goals as goal
 
 -- ---- where it leads
@@ -64,15 +65,15 @@ returns-then-is_finished-clause-steps g c = λ now turn.
 
 pub returns-in_default-short-clause-steps : goal.returns-in_default-short-clause-steps
 returns-in_default-short-clause-steps g c = λ now turn.
-    writer_still g.C.Link g.O.Link g.O.Upstream _ _ _ _ now turn (keeps_same g.C.Link g.O.Link g.O.Upstream _)
+    writer_still g.C.Link g.O.Link g.O.Upstream _ _ _ _ now turn (all_kept g.C.Link g.O.Link g.O.Upstream _)
     (writer_rests _ _ _ _ _ _ _ (record { client = refl; origin = refl; late = refl }) refl refl)
 
 pub returns-then-rests-clause-steps : goal.returns-then-rests-clause-steps
 returns-then-rests-clause-steps g c = λ now turn.
-    writer_still g.C.Link g.O.Link g.O.Upstream _ _ _ _ now turn (keeps_same g.C.Link g.O.Link g.O.Upstream _)
+    writer_still g.C.Link g.O.Link g.O.Upstream _ _ _ _ now turn (all_kept g.C.Link g.O.Link g.O.Upstream _)
     (writer_rests _ _ _ _ _ _ _ (calm_short c.in-Some.short c.short_end.result c.short_end.ensures) refl refl)
 
 pub returns-else-rests-clause-steps : goal.returns-else-rests-clause-steps
 returns-else-rests-clause-steps g c = λ now turn.
-    writer_still g.C.Link g.O.Link g.O.Upstream _ _ _ _ now turn (keeps_same g.C.Link g.O.Link g.O.Upstream _)
+    writer_still g.C.Link g.O.Link g.O.Upstream _ _ _ _ now turn (all_kept g.C.Link g.O.Link g.O.Upstream _)
     (writer_rests _ _ _ _ _ _ _ (record { client = refl; origin = refl; late = refl }) refl refl)

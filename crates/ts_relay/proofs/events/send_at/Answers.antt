@@ -5,7 +5,7 @@ use Rattle.ts_relay.specs.Duties.{SettlesAfter}
 use Rattle.ts_relay.proofs.BodyEvents.{handles_quiet, handles_write, settled_as}
 use Rattle.ts_relay.proofs.BodyLinks.{links_quiet, links_write}
 use Rattle.ts_relay.proofs.LoweringPays.{quiet_pays, send_pays}
-use Rattle.ts_relay.proofs.StepsOwed.{keeps_same}
+use Rattle.ts_phases.proofs.Owed.{all_kept}
 use Rattle.ts_relay.proofs.events.send_at.Goals as goal
 
 pub returns-clause-leads : goal.returns-clause-leads
@@ -28,7 +28,7 @@ returns-clause-pays g c =
 
 pub returns-then-not-works-clause-handles : goal.returns-then-not-works-clause-handles
 returns-then-not-works-clause-handles g c = record {
-  keeps = keeps_same g.C.Link g.O.Link g.O.Upstream _;
+  keeps = all_kept g.C.Link g.O.Link g.O.Upstream _;
   body =
       handles_quiet 1 c.args.event _ c.args.main.now
       c.args.relay.now c.args.cx.now c.requires.turn (sym c.works.ensures ∙ c.if-not-works.true);

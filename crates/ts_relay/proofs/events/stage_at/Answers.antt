@@ -6,7 +6,7 @@ use Rattle.ts_relay.proofs.BodyEvents.{handles_stage, settled_as, stage_leads}
 use Rattle.ts_relay.proofs.BodyLinks.{links_stage}
 use Rattle.ts_relay.specs.Duties.{SettlesAfter}
 use Rattle.ts_relay.proofs.LoweringPays.{role_pays}
-use Rattle.ts_relay.proofs.StepsOwed.{keeps_same}
+use Rattle.ts_phases.proofs.Owed.{all_kept}
 use Rattle.ts_relay.proofs.events.stage_at.Goals as goal
 
 pub returns-clause-leads : goal.returns-clause-leads
@@ -33,7 +33,7 @@ returns-clause-pays g c =
 
 pub returns-clause-handles : goal.returns-clause-handles
 returns-clause-handles g c = record {
-  keeps = keeps_same g.C.Link g.O.Link g.O.Upstream _;
+  keeps = all_kept g.C.Link g.O.Link g.O.Upstream _;
   body =
       handles_stage c.args.role c.args.event c.handle.result c.step_after-step.result c.settle_after.result
       _ c.args.main.now c.settle_after.new.main

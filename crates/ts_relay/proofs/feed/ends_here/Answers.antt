@@ -1,5 +1,5 @@
 -- An unfinished body goes up to the close, or is cut, as its end says.
-use Rattle.ts_relay.proofs.Fed.{ends_closed, ends_cut}
+use Rattle.ts_passing.proofs.Fed.{ends_closed, ends_cut}
 use Rattle.ts_relay.proofs.feed.ends_here.Goals as goal
 
 pub returns-in-Ended-finish : goal.returns-in-Ended-finish

@@ -2,7 +2,7 @@
 use Rattle.std.proofs.Common.{◌+◌, ◌∷◌, drop, ap, sym, subst, ◌∙◌}
 use Rattle.std.proofs.lemmas.List.{drop_all, drop_more}
 use Rattle.ts_block.specs.Acting.{acts_on}
-use Rattle.ts_relay.proofs.Parting.{Continues, part_last, part_more, part_none}
+use Rattle.ts_passing.proofs.Parting.{Continues, part_last, part_more, part_none}
 use Rattle.ts_relay.proofs.making.fresh_parts.Goals.{then-acts_on+in_ok-fresh+in_ok-push, else-acts_on}
 use Rattle.ts_relay.proofs.making.fresh_parts.Goals as goal
 

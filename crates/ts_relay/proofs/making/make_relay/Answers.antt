@@ -3,10 +3,10 @@ use Rattle.std.proofs.Common.{subst, sym, ◌∙◌}
 use Rattle.ts_transform.specs.Flow.{Composes}
 use Rattle.ts_wire.specs.declared.framing.Framing.{Framing}
 use Rattle.ts_block.specs.Block.{lines_for}
-use Rattle.ts_relay.specs.Inserted.{AreOfLines}
+use Rattle.ts_passing.specs.Inserted.{AreOfLines}
 use Rattle.ts_block.specs.Relayed.{if_body}
 use Rattle.ts_relay.proofs.Entered.{fresh_relay}
-use Rattle.ts_relay.proofs.Parting.{compose_of_lines, soon_of_lines}
+use Rattle.ts_passing.proofs.Parting.{compose_of_lines, soon_of_lines}
 use Rattle.ts_relay.proofs.making.make_relay.Goals as goal
 
 pub returns-clause-fresh : goal.returns-clause-fresh

@@ -6,7 +6,8 @@ use Rattle.ts_phases.specs.View.{view_of}
 use Rattle.ts_relay.specs.Duties.{MustReadOn}
 use Rattle.ts_relay.specs.Relaying.{IsShort}
 use Rattle.ts_relay.proofs.BodyLinks.{reader_drained, reader_rests, short_none}
-use Rattle.ts_relay.proofs.StepsOwed.{keeps_same, reader_still}
+use Rattle.ts_relay.proofs.StepsOwed.{reader_still}
+use Rattle.ts_phases.proofs.Owed.{all_kept}
 use Rattle.ts_relay.proofs.LoweringRelay.{feeds_lower, idles}
 use Rattle.ts_relay.proofs.Stopping.{feeds_lead}
 use Rattle.ts_relay.proofs.origin_end.read_body.Goals as goal
@@ -19,7 +20,7 @@ returns-then-not-must_read_on-clause-lowers g c =
 
 pub returns-then-not-must_read_on-clause-steps : goal.returns-then-not-must_read_on-clause-steps
 returns-then-not-must_read_on-clause-steps g c =
-    reader_still g.C.Link g.O.Link g.O.Upstream _ _ _ _ _ c.requires.turn (keeps_same g.C.Link g.O.Link
+    reader_still g.C.Link g.O.Link g.O.Upstream _ _ _ _ _ c.requires.turn (all_kept g.C.Link g.O.Link
     g.O.Upstream _) (reader_rests _ _ _ _ _ _ _ (record { client = refl; origin = refl; late = refl })
     refl refl)
 

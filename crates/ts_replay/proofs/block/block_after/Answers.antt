@@ -1,31 +1,32 @@
 -- A transaction is told by the parts that are left of it.
+use Rattle.std.proofs.Common.{true}
 use Rattle.ts_replay.proofs.Telling.{ends_as, left_between}
 use Rattle.ts_txn.specs.Making.{end_of_course}
 use Rattle.ts_replay.proofs.block.block_after.Goals as goal
 
 pub block_left-requires : goal.block_left-requires
 block_left-requires c =
-    let run = c.requires.run in
-    let parts = c.into_parts-parts in
+    let run = c.requires.run.2 in
+    let parts = c.take_apart-parts in
     record {
       left = (
-        run.0,
-        run.1,
-        left_between run.0 run.1 c.args.txn parts.result run.2
-            parts.ensures.links parts.ensures.sent parts.ensures.end.1,
+        c.requires.run.0,
+        c.requires.run.1,
+        left_between c.requires.run.0 c.requires.run.1 c.args.txn parts.result run
+            (parts.ensures.left run.ends true run.state run.between),
       );
     }
 
 pub returns-clause-shown : goal.returns-clause-shown
 returns-clause-shown c = λ setup sides run.
-    let parts = c.into_parts-parts in
+    let parts = c.take_apart-parts in
     c.block_left.ensures.shown setup sides (left_between setup sides c.args.txn parts.result run
-    parts.ensures.links parts.ensures.sent parts.ensures.end.1)
+    (parts.ensures.left run.ends true run.state run.between))
 
 pub returns-clause-ended : goal.returns-clause-ended
 returns-clause-ended c = λ setup sides run.
-    let parts = c.into_parts-parts in
+    let parts = c.take_apart-parts in
     ends_as (c.block_left.result) sides.leave parts.result.end (end_of_course c.args.txn.course)
-    parts.ensures.end.1
+    parts.ensures.apart.end_is
     (c.block_left.ensures.ended setup sides (left_between setup sides c.args.txn parts.result run
-    parts.ensures.links parts.ensures.sent parts.ensures.end.1))
+    (parts.ensures.left run.ends true run.state run.between)))

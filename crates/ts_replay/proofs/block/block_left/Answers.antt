@@ -32,7 +32,7 @@ module _ (c : In_default-end-2) (setup : Setup) (sides : BothSides)
       → HasLeft setup sides c.args.parts.now c.in-Some.origin
   left_before told =
       left_at setup sides c.args.parts.now c.in-Some.origin stands c.known.ensures.goes told
-      left.run.takes_some c.in-Some-end.end c.in-Some-end.is c.in_default-end-2.not-NoMemory
+      left.ends_are.takes_some c.in-Some-end.end c.in-Some-end.is c.in_default-end-2.not-NoMemory
 
 pub unreachable-requires-in_default-end : goal.unreachable-requires-in_default-end
 unreachable-requires-in_default-end c =

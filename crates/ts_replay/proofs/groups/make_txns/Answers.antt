@@ -19,8 +19,8 @@ txns-preserved c =
     let member = Transaction (c.txns.number + 1) c.in-Some.txn in
     let tagged : IsNewTagOf (arc_value c.args.setup.now) at member c.in_ok-group.tag =
     subst (λ n. IsNewTagOf (arc_value c.args.setup.now) n member c.in_ok-group.tag)
-    (c.len-starts.ensures ∙ c.args.txns.ok.0)
-    (subst (λ s. IsNewTagOf s c.len-starts.result member c.in_ok-group.tag) c.in_ok-clone.ensures.cases
+    (c.len.ensures ∙ c.args.txns.ok.0)
+    (subst (λ s. IsNewTagOf s c.len.result member c.in_ok-group.tag) c.in_ok-clone.ensures.cases
     made.tag) in
     row_more (arc_value c.args.setup.now) at c.args.txns.items c.txns.rest.items c.pop_front.new.self.items
     c.in-Some.txn c.txns.number (c.txns.number + 1) c.txns.tags.items c.push-in-Some.new.self.items

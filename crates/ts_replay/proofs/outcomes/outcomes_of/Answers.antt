@@ -35,7 +35,7 @@ groups-preserved c = λ setup txns each.
     c.in_ok-add_block.ensures)
     (is_kept c.in-Some.group.cx.log c.into_parts-world.result.1 c.entries.result.now log
     c.entries.ensures.entries c.entries.ensures.lawful c.entries.ensures.state
-    c.known.ensures.lived c.known.ensures.valid.counts)
+    c.known.ensures.lived_base c.known.ensures.lived c.known.ensures.valid.counts)
     (c.in_ok-push.ensures.items ∙ ap (λ j. c.groups.journals.items ++ j ∷ []) log)
 
 pub returns : goal.returns

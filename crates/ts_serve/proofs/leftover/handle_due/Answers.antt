@@ -1,5 +1,5 @@
 -- After a turn of one group, all fit the tags that they fitted.
-use Rattle.ts_thread.specs.declared.ending.TheConstants.{MOST_TURNS}
+use Rattle.ts_thread.specs.declared.TheConstants.{MOST_TURNS}
 use Rattle.ts_serve.proofs.Leftovers.{stay_gone}
 use Rattle.ts_serve.proofs.leftover.handle_due.Goals as goal
 

@@ -5,7 +5,7 @@ use Rattle.ts_thread.proofs.news.tell_news.Goals as goal
 
 pub news-smaller : goal.news-smaller
 news-smaller g c =
-    let less = telling_less c.args.shared c.args.k c.args.moment c.args.group.now c.news.group c.args.desk.now
+    let less = telling_less c.args.hands_over c.args.k c.args.moment c.args.group.now c.news.group c.args.desk.now
     c.news.desk c.in-Some.number c.in-Some.due c.news.invariant.1 c.in-Some.ensures.news in
     let from = c.in-Some.ensures.once in
     let next = ap (λ (s : State). s.next) c.in-Some.ensures.same.log.state in
@@ -20,10 +20,10 @@ pub news-preserved : goal.news-preserved
 news-preserved g c =
     let put = c.in_ok-place.ensures in
     let news = c.in-Some.ensures in (
-      desk_place c.args.slots.now c.args.queue.now c.news.desk c.place.new.desk
+      desk_place c.args.shared.now.slots.now c.args.shared.now.queue.now c.news.desk c.place.new.desk
           (record { group = c.args.k; number = c.in-Some.number }) c.in-Some.due c.args.moment
           c.news.invariant.0 c.requires.group put.pass put.seat put.ok,
-      telling_goes_on c.args.shared c.args.k c.args.moment c.args.group.now c.news.group c.next_news.new.self
+      telling_goes_on c.args.hands_over c.args.k c.args.moment c.args.group.now c.news.group c.next_news.new.self
           c.args.desk.now c.news.desk c.place.new.desk c.in-Some.number c.in-Some.due c.news.invariant.1
           news.news news.once news.same news.world put.seat put.empties put.ok,
     )

@@ -1,7 +1,7 @@
 use Rattle.std.proofs.Common.{true, arith}
 use Rattle.ts_thread.proofs.Ended.{all_tell, turns_enough}
-use Rattle.ts_group_tests.specs.declared.peer.TheConstants.{ASKED}
-use Rattle.ts_group_tests.specs.Peers.{PeerFits, PeerSound, peer_left}
+use Rattle.ts_toys.specs.declared.peer.TheConstants.{ASKED}
+use Rattle.ts_toys.specs.Peers.{PeerFits, PeerSound, peer_left}
 use Rattle.ts_thread_tests.specs.Peers.{row_tags}
 use Rattle.ts_thread_tests.proofs.Ends.{peers_can_ask, peers_tell, peers_end, only_memory}
 use Rattle.ts_thread_tests.proofs.row.drive_row.Goals as goal

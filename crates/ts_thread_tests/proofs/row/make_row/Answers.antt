@@ -1,5 +1,5 @@
 use Rattle.std.proofs.Common.{◌≡◌, subst, arith}
-use Rattle.ts_group_tests.specs.declared.peer.TheConstants.{ASKED}
+use Rattle.ts_toys.specs.declared.peer.TheConstants.{ASKED}
 use Rattle.ts_thread_tests.proofs.Ends.{IsFilling, filling_begins, filling_next, row_done}
 use Rattle.ts_thread_tests.proofs.row.make_row.Goals as goal
 

@@ -1,5 +1,5 @@
 use Rattle.std.proofs.Common.{◌≡◌, arith}
-use Rattle.ts_group_tests.specs.declared.peer.TheConstants.{ASKED}
+use Rattle.ts_toys.specs.declared.peer.TheConstants.{ASKED}
 use Rattle.ts_thread_tests.proofs.Ends.{tags_next, tags_done}
 use Rattle.ts_thread_tests.proofs.row.make_tags.Goals as goal
 

@@ -1,8 +1,8 @@
 use Rattle.std.proofs.Common.{◌≤◌, ◌*◌, ℕ, All, true, refl, sym, subst, arith}
 use Rattle.std.proofs.lemmas.Nat.{mul-le}
 use Rattle.std.proofs.lemmas.Result.{IfOk-weaker}
-use Rattle.ts_group_tests.specs.declared.peer.TheConstants.{ASKED}
-use Rattle.ts_group_tests.specs.Peers.{PeerFits, PeerSound, PeerMayAsk, PeerRight, PeerAnswers, PeerCounted, peer_left}
+use Rattle.ts_toys.specs.declared.peer.TheConstants.{ASKED}
+use Rattle.ts_toys.specs.Peers.{PeerFits, PeerSound, PeerMayAsk, PeerRight, PeerAnswers, PeerCounted, peer_left}
 use Rattle.ts_thread.specs.declared.TheConstants.{MOST_ALONE, MOST_THREADS}
 use Rattle.ts_thread.specs.Threads.{turns_of}
 use Rattle.ts_thread.specs.Whole.{CanBeRun, EndSoon}

@@ -3,7 +3,7 @@ use Rattle.std.proofs.Common.{◌≡◌, ◌≤◌, ◌*◌, ◌+◌, ◌<◌, A
 use Rattle.std.proofs.lemmas.Result.{IfOk-weaker}
 use Rattle.std.proofs.lemmas.Nat.{mul-le}
 use Rattle.ts_group.specs.declared.slot.TheConstants.{MOST_IN_TURN}
-use Rattle.ts_group_tests.specs.declared.toy.TheConstants.{MOST_WORK}
+use Rattle.ts_toys.specs.declared.toy.TheConstants.{MOST_WORK}
 use Rattle.ts_thread.specs.declared.TheConstants.{MOST_ALONE, MOST_THREADS}
 use Rattle.ts_thread.specs.Threads.{turns_of}
 use Rattle.ts_thread_tests.specs.declared.row.TheConstants.{BUDGET}

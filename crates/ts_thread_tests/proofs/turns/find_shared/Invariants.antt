@@ -1,5 +1,5 @@
 use Rattle.std.proofs.Common.{◌≡◌}
-use Rattle.ts_group_tests.specs.declared.peer.TheConstants.{ASKED}
+use Rattle.ts_toys.specs.declared.peer.TheConstants.{ASKED}
 use Rattle.ts_queue.specs.Passes.{IsPassOf}
 use Rattle.ts_slot.specs.Words.{tags_of}
 use Rattle.ts_thread_tests.specs.Peers.{row_tags}

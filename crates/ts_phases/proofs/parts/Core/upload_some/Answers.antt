@@ -16,40 +16,40 @@ use Rattle.ts_phases.proofs.parts.Core.upload_some.Goals as goal
 
 pub returns-in-Done-clause-owes : goal.returns-in-Done-clause-owes
 returns-in-Done-clause-owes g c =
-    uploads c.in-Done.ensures.keeps c.args.request U.Done c.in-Done.ensures.moves c.in-Done.ensures.lowers
+    uploads c.in-Done.ensures.keeps c.args.request U.Done c.in-Done.ensures.once c.in-Done.ensures.moves c.in-Done.ensures.lowers
     refl refl tt
 
 pub returns-in-More-clause-owes : goal.returns-in-More-clause-owes
 returns-in-More-clause-owes g c =
-    uploads c.in-More.ensures.keeps c.args.request U.More c.in-More.ensures.moves c.in-More.ensures.lowers
+    uploads c.in-More.ensures.keeps c.args.request U.More c.in-More.ensures.once c.in-More.ensures.moves c.in-More.ensures.lowers
     refl refl tt
 
 pub returns-in-Again-clause-owes : goal.returns-in-Again-clause-owes
 returns-in-Again-clause-owes g c =
-    uploads c.in-Again.ensures.keeps c.args.request U.Again c.in-Again.ensures.moves c.in-Again.ensures.lowers
+    uploads c.in-Again.ensures.keeps c.args.request U.Again c.in-Again.ensures.once c.in-Again.ensures.moves c.in-Again.ensures.lowers
     refl refl (upload_waits _ _ _ _ _ c.in-Again.ensures.moves)
 
 pub returns-in-ClientFailed-clause-owes : goal.returns-in-ClientFailed-clause-owes
 returns-in-ClientFailed-clause-owes g c =
-    uploads c.in-ClientFailed.ensures.keeps c.args.request U.ClientFailed c.in-ClientFailed.ensures.moves
+    uploads c.in-ClientFailed.ensures.keeps c.args.request U.ClientFailed c.in-ClientFailed.ensures.once c.in-ClientFailed.ensures.moves
     c.in-ClientFailed.ensures.lowers
     refl refl tt
 
 pub returns-in-OriginFailed-clause-owes : goal.returns-in-OriginFailed-clause-owes
 returns-in-OriginFailed-clause-owes g c =
-    uploads c.in-OriginFailed.ensures.keeps c.args.request U.OriginFailed c.in-OriginFailed.ensures.moves
+    uploads c.in-OriginFailed.ensures.keeps c.args.request U.OriginFailed c.in-OriginFailed.ensures.once c.in-OriginFailed.ensures.moves
     c.in-OriginFailed.ensures.lowers
     (bad_gateway c.answer_to-answer.ensures) tt tt
 
 pub returns-in-Refused-clause-owes : goal.returns-in-Refused-clause-owes
 returns-in-Refused-clause-owes g c =
-    uploads c.in-Refused.ensures.keeps c.args.request U.Refused c.in-Refused.ensures.moves
+    uploads c.in-Refused.ensures.keeps c.args.request U.Refused c.in-Refused.ensures.once c.in-Refused.ensures.moves
     c.in-Refused.ensures.lowers
     (refusal c.answer_to-answer-in-Refused.ensures) tt tt
 
 pub returns-in-NoMemory-clause-owes : goal.returns-in-NoMemory-clause-owes
 returns-in-NoMemory-clause-owes g c =
-    uploads c.in-NoMemory.ensures.keeps c.args.request U.NoMemory c.in-NoMemory.ensures.moves
+    uploads c.in-NoMemory.ensures.keeps c.args.request U.NoMemory c.in-NoMemory.ensures.once c.in-NoMemory.ensures.moves
     c.in-NoMemory.ensures.lowers
     refl refl tt
 

@@ -1,5 +1,5 @@
 use Rattle.std.proofs.Common.{◌+◌, ◌-◌, refl, subst}
-use Rattle.std.specs.Prelude.{take, slice_range}
+use Rattle.std.specs.Prelude.{take, slice_range, vec_capacity}
 use Rattle.ts_wire.specs.Place.{Place, place_of, GoesOn}
 use Rattle.ts_wire.proofs.PlaceBody.{goes_on, gives_body}
 use Rattle.ts_wire.proofs.body.BodyReader.feed.Goals as goal
@@ -12,6 +12,7 @@ returns-clause-goes_on c =
       phase = step.phase;
       held = c.next_step-step.new.held.items;
       total = c.self.inside.total + (step.to - step.from);
+      room = vec_capacity c.next_step-step.new.held;
     } in
     subst (λ p. GoesOn p now (take step.taken bytes) (slice_range bytes step.from step.to)) c.self.view_is
     (goes_on (place_of c.self.inside) now bytes step c.next_step-step.ensures.steps refl refl)

@@ -1,10 +1,10 @@
-use Rattle.std.proofs.Common.{arith}
-use Rattle.ts_wire.proofs.BodyLemmas.{no_line_yet}
-use Rattle.ts_wire.proofs.PlaceBody.{begins_chunked}
+use Rattle.std.specs.Prelude.{vec_capacity}
+use Rattle.ts_wire.proofs.PlaceBody.{begins}
 use Rattle.ts_wire.proofs.body.BodyReader.make.Goals as goal
 
-pub begin-requires-in-Chunked-clause-sound : goal.begin-requires-in-Chunked-clause-sound
-begin-requires-in-Chunked-clause-sound c = (omega arith, omega arith, no_line_yet)
-
-pub returns-in-Chunked : goal.returns-in-Chunked
-returns-in-Chunked c = begins_chunked c.args.framing c.in-Chunked.is _ c.begin-in-Chunked.ensures
+pub returns-clause-fed : goal.returns-clause-fed
+returns-clause-fed c =
+    let held = c.in_ok-held.held in
+    let first = c.first_phase-phase in
+    begins c.args.framing first.result held.items (vec_capacity held) c.requires first.ensures.value
+    c.in_ok-held.ensures.items first.ensures.sound

@@ -1,3 +1,0 @@
-pub mod Begun
-pub mod ByFinish
-pub mod Rows

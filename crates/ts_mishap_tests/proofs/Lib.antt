@@ -1,0 +1,4 @@
+pub mod Begun
+pub mod ByFinish
+pub mod Ordered
+pub mod Rows

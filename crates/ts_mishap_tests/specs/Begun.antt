@@ -1,0 +1,73 @@
+-- A row of groups: a transaction that was started, and behind it the plugins of the lines of its setup.
+use Rattle.std.specs.Prelude.{◌≡◌, ◌⊎◌, ℕ, ◌≤◌, List, ◌∷◌, false, true, All, IsSome}
+use Rattle.std.specs.List.{AllZip}
+use Rattle.ts_config.specs.declared.setup.Setup.{Setup}
+use Rattle.ts_config.specs.declared.setup.TransformLine.{TransformLine}
+use Rattle.ts_exchange.specs.Rows.{FitInRow, IsTagOfLine, RowGroup, RowTag}
+use Rattle.ts_group.specs.declared.either.EitherTag.TheVariants as kind
+use Rattle.ts_journal.specs.declared.entry.TheConstants.{GREATEST}
+use Rattle.ts_journal.specs.declared.entry.Pending.{Pending}
+use Rattle.ts_journal.specs.State.{State}
+use Rattle.ts_link.specs.declared.link.Link as link
+use Rattle.ts_upstream.specs.declared.upstream.Upstream as upstream
+use Rattle.ts_transform.specs.declared.transform.Transform as transform
+use Rattle.ts_thread.specs.Threads.{HasHadTurns}
+use Rattle.ts_txn.specs.Making.{end_of_course}
+use Rattle.ts_txn.specs.LoweringCourse.{transaction_left}
+use Rattle.ts_phases.specs.declared.parts.Core.{Core}
+use Rattle.ts_txn.specs.declared.course.Course.{Course}
+use Rattle.ts_txn.specs.declared.txn.Txn.{Txn}
+use Rattle.ts_txn.specs.declared.txn.TxnTag.{TxnTag}
+
+-- the group of the plugin of the first line, behind that of the transaction
+abbrev pub first_plugin : ℕ
+first_plugin = 1
+
+-- the turn in which a transaction is started
+abbrev pub first_turn : ℕ
+first_turn = 1
+
+-- the transaction has ended, or the event numbers of its group, which is in this state, are used up
+abbrev pub HasEndedOr : {C O Q : Type 0} → Txn C O Q → State → Type 0
+HasEndedOr t s = IsSome (end_of_course t.course) ⊎ (GREATEST ≤ s.next)
+
+-- The tags of a row: that of the transaction, which asks the groups behind its own, and those of the plugins
+-- of its lines, in their order.
+pub record AreRowTags {C O : Type 0} (tag : TxnTag C O) (tags : List (RowTag C O)) : Type 0 where
+  pub behind : List (RowTag C O)
+  pub tags_are : tags ≡ kind.One tag ∷ behind
+  pub lines : AllZip IsTagOfLine tag.setup.value.plugins.items behind
+  pub plugins_at : tag.plugins_at ≡ first_plugin
+
+-- they are the tags of a row
+pub record HasRowTags {C O : Type 0} (tags : List (RowTag C O)) : Type 0 where
+  pub tag : TxnTag C O
+  pub are : AreRowTags tag tags
+
+-- the tag is that of a transaction under this setup, which was not started
+pub record IsTagFor {C O : Type 0} (setup : Setup) (tag : TxnTag C O) : Type 0 where
+  pub setup_is : tag.setup.value ≡ setup
+  pub plugins_at : tag.plugins_at ≡ first_plugin
+  pub started : tag.started ≡ false
+
+module _ {C O Q : Type 0} (client : link.Ghosts C) (origin : link.Ghosts O) (both : upstream.Ghosts O C)
+    (stage : transform.Ghosts Q TransformLine) where
+  -- The groups fit the tags of a row, and have had no turn.
+  pub record IsNewRow (tags : List (RowTag C O)) (groups : List (RowGroup C O Q)) : Type 0 where
+    pub tag : TxnTag C O
+    pub tags_are : AreRowTags tag tags
+    pub fit : FitInRow client origin both stage tags groups
+    pub new : All (HasHadTurns 0) groups
+
+  -- The groups fit the tags of a row whose transaction was started.
+  pub record HasBegun (groups : List (RowGroup C O Q)) : Type 0 where
+    pub tag : TxnTag C O
+    pub tags : List (RowTag C O)
+    pub tags_are : AreRowTags tag tags
+    pub fit : FitInRow client origin both stage tags groups
+    pub started : tag.started ≡ true
+
+  -- its number in its group is told, however far it is
+  abbrev pub AlwaysTells : Type 0
+  AlwaysTells = (core : Core C O) (course : Course Q) (pending : List Pending)
+      → IsSome (transaction_left client origin both stage core course pending)

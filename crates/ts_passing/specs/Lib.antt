@@ -1,0 +1,4 @@
+pub mod Feeding
+pub mod Inserted
+pub mod Lines
+pub mod Sends

@@ -1,0 +1,220 @@
+-- How the balance are kept: as clients are in the row, while they are served, and as what is left of them is handed
+-- over.
+use Rattle.std.proofs.Common.{◌≡◌, ℕ, ◌+◌, ◌<◌, ◌≤◌, ◌⊎◌, inl, inr, cond, List, [], ◌∷◌, ◌++◌, All, Bool, true, false, not, length, get_or, set, replicate, is_some, refl, sym, ap, ◌∙◌, subst, arith}
+use Rattle.std.specs.List.{sum_by}
+use Rattle.std.proofs.lemmas.Bool.Decides.{nat_tests}
+use Rattle.std.proofs.lemmas.List.Elements.{All-nil, All-push}
+use Rattle.std.proofs.lemmas.List.Folds.{sum_by-replicate}
+use Rattle.std.proofs.lemmas.List.Sums.{sum_by-append, sum_by-cons, sum_by-set}
+use Rattle.ts_link.specs.Counts.{Counted, greatest}
+use Rattle.ts_slot.specs.Lists.{same}
+use Rattle.ts_slot.specs.Views.{within}
+use Rattle.ts_txn.specs.Net.{IsFreshNet, IsHanded, IsHandedNothing, NetSeen}
+use Rattle.ts_txn.specs.declared.net.NetCounts.{NetCounts}
+use Rattle.ts_txn.specs.declared.retired.Retired.{Retired}
+use Rattle.ts_serve.specs.declared.connection.Connection.{Connection}
+use Rattle.ts_serve.specs.declared.connection.Connection.TheVariants.{Free, Accepted}
+use Rattle.ts_serve.specs.Balance.{IsBalanced, HasAll, HasNoMore, IsSameRow, had_number, has_number, is_given, is_taken, lacked_origin, lacks_origin}
+
+-- one client more was given, under the next number
+given_next : (given x : ℕ) → within 1 (given + 1 + 1) x ≡ within 1 (given + 1) x + same (given + 1) x
+given_next given x = grind (arith, nat_tests)
+
+-- a count that rose, or stands at its end, is no less
+counted_on : (rose : Bool) (old new : ℕ) → Counted rose old new → old ≤ new
+counted_on true old new rose = omega arith
+counted_on false old new is = omega arith
+
+-- a count rose by one where it was counted, unless it stands at its end
+counted_one : (has : Bool) (old new : ℕ) → Counted (not has) old new
+    → (old + cond has 0 1 ≤ new) ⊎ (greatest ≤ new)
+counted_one true old new is = inl (omega arith)
+counted_one false old new rose = grind arith
+
+-- a sum over a row of which one place is in the row anew
+row_set : (f : Connection → ℕ) (row : List Connection) (k : ℕ) (was is : Connection) → k < length row
+    → get_or row k Free ≡ was → sum_by f (set row k is) + f was ≡ sum_by f row + f is
+row_set f row k was is below found =
+    subst (λ b. sum_by f (set row k is) + f b ≡ sum_by f row + f is) found (sum_by-set f row k is Free below)
+
+-- a sum over what was handed over, of which there is one more
+sum_push : {A : Type 0} (f : A → ℕ) (xs : List A) (x : A) → sum_by f (xs ++ x ∷ []) ≡ sum_by f xs + f x
+sum_push f xs x =
+    let one : sum_by f (x ∷ []) ≡ f x + sum_by f [] = sum_by-cons f x [] in
+    let none : sum_by f [] ≡ 0 = refl in
+    omega (arith, sum_by-append f xs (x ∷ []))
+
+-- the row in which nobody is in the row
+pub free_sum : (f : Connection → ℕ) → f Free ≡ 0 → (places : ℕ) → sum_by f (replicate places Free) ≡ 0
+free_sum f none places = grind (arith, none, sum_by-replicate f places Free)
+
+module _ {C O : Type 0} (Done : Retired C O → Type 0) (misdials : ℕ) where
+  -- before anything was given
+  pub balance_fresh : (places : ℕ) (net : NetSeen C O) → IsFreshNet net → net.counts.misdials ≡ misdials
+      → IsBalanced Done misdials (replicate places Free) net
+  balance_fresh places net fresh is = record {
+    each = subst (All Done) (sym fresh.retired) (All-nil Done);
+    once = λ x.
+        let none : sum_by (had_number x) net.retired ≡ 0 = ap (sum_by (had_number x)) fresh.retired in
+        let free : sum_by (has_number x) (replicate places Free) ≡ 0 = free_sum (has_number x) refl places in
+        omega arith;
+    dialed =
+        let none : sum_by lacked_origin net.retired ≡ 0 = ap (sum_by lacked_origin) fresh.retired in
+        let free : sum_by lacks_origin (replicate places Free) ≡ 0 = free_sum lacks_origin refl places in
+        inl (omega arith);
+  }
+
+  -- nobody came
+  pub balance_same : (row : List Connection) (old new : NetSeen C O) → new.given ≡ old.given
+      → IsHandedNothing old new → old.counts.misdials ≤ new.counts.misdials
+      → IsBalanced Done misdials row old → IsBalanced Done misdials row new
+  balance_same row old new given nothing on balance = record {
+    each = subst (All Done) (sym nothing.retired) balance.each;
+    once = λ x.
+        let was = balance.once x in
+        let handed : sum_by (had_number x) new.retired ≡ sum_by (had_number x) old.retired =
+        ap (sum_by (had_number x)) nothing.retired in
+        let are : is_given new x ≡ is_given old x = ap (λ n. within 1 (n + 1) x) given in omega arith;
+    dialed =
+        let handed : sum_by lacked_origin new.retired ≡ sum_by lacked_origin old.retired =
+        ap (sum_by lacked_origin) nothing.retired in
+        elim balance.dialed [ inl few ↦ inl (omega arith) | inr end ↦ inr (omega arith) ];
+  }
+
+  -- the row is another one, in which the same is in the row
+  pub balance_row : (row again : List Connection) (net : NetSeen C O) → IsSameRow row again
+      → IsBalanced Done misdials row net → IsBalanced Done misdials again net
+  balance_row row again net alike balance = record {
+    each = balance.each;
+    once = λ x. let was = balance.once x in let are = alike.numbers x in omega arith;
+    dialed = let are = alike.origins in
+        elim balance.dialed [ inl few ↦ inl (omega arith) | inr end ↦ inr end ];
+  }
+
+  -- a client came, and is in the row for a place that was free
+  pub balance_in : (row : List Connection) (k number : ℕ) (has_origin : Bool) (old new : NetSeen C O)
+      → k < length row → get_or row k Free ≡ Free → number ≡ old.given + 1 → new.given ≡ old.given + 1
+      → IsHandedNothing old new → Counted (not has_origin) old.counts.misdials new.counts.misdials
+      → IsBalanced Done misdials row old → IsBalanced Done misdials (set row k (Accepted number has_origin false)) new
+  balance_in row k number has_origin old new below free number_is given nothing counted balance = record {
+    each = subst (All Done) (sym nothing.retired) balance.each;
+    once = λ x.
+        let was = balance.once x in
+        let handed : sum_by (had_number x) new.retired ≡ sum_by (had_number x) old.retired =
+        ap (sum_by (had_number x)) nothing.retired in
+        let connected : sum_by (has_number x) (set row k (Accepted number has_origin false)) + 0
+        ≡ sum_by (has_number x) row + same number x =
+        row_set (has_number x) row k Free (Accepted number has_origin false) below free in
+        let is : same number x ≡ same (old.given + 1) x = ap (λ n. same n x) number_is in
+        let are : is_given new x ≡ within 1 (old.given + 1 + 1) x = ap (λ n. within 1 (n + 1) x) given in
+        let next = given_next old.given x in omega arith;
+    dialed =
+        let handed : sum_by lacked_origin new.retired ≡ sum_by lacked_origin old.retired =
+        ap (sum_by lacked_origin) nothing.retired in
+        let connected : sum_by lacks_origin (set row k (Accepted number has_origin false)) + 0
+        ≡ sum_by lacks_origin row + cond has_origin 0 1 =
+        row_set lacks_origin row k Free (Accepted number has_origin false) below free in
+        let on = counted_on (not has_origin) old.counts.misdials new.counts.misdials counted in
+        elim balance.dialed [
+          | inl few ↦ elim (counted_one has_origin old.counts.misdials new.counts.misdials counted) [
+            | inl one ↦ inl (omega arith)
+            | inr end ↦ inr end
+          ]
+          | inr end ↦ inr (omega arith)
+        ];
+  }
+
+  -- what is left of the client of a place was handed over, and the place is free
+  pub balance_out : (row : List Connection) (k number : ℕ) (has_origin started : Bool) (retired : Retired C O)
+      (old new : NetSeen C O) → k < length row → get_or row k Free ≡ Accepted number has_origin started
+      → IsHanded true retired old new → retired.parts.number ≡ number
+      → is_some retired.parts.origin ≡ has_origin → Done retired
+      → IsBalanced Done misdials row old → IsBalanced Done misdials (set row k Free) new
+  balance_out row k number has_origin started retired old new below found handed number_is origin_is done
+      balance =
+      let told : new.retired ≡ old.retired ++ retired ∷ [] = handed.told refl in record {
+        each = subst (All Done) (sym told) (All-push Done old.retired retired balance.each done);
+        once = λ x.
+            let was = balance.once x in
+            let more : sum_by (had_number x) new.retired
+            ≡ sum_by (had_number x) old.retired + same retired.parts.number x =
+            ap (sum_by (had_number x)) told ∙ sum_push (had_number x) old.retired retired in
+            let is : same retired.parts.number x ≡ same number x = ap (λ n. same n x) number_is in
+            let less : sum_by (has_number x) (set row k Free) + same number x
+            ≡ sum_by (has_number x) row + 0 =
+            row_set (has_number x) row k (Accepted number has_origin started) Free below found in
+            let are : is_given new x ≡ is_given old x = ap (λ n. within 1 (n + 1) x) handed.given in
+            omega arith;
+        dialed =
+            let more : sum_by lacked_origin new.retired
+            ≡ sum_by lacked_origin old.retired + cond (is_some retired.parts.origin) 0 1 =
+            ap (sum_by lacked_origin) told ∙ sum_push lacked_origin old.retired retired in
+            let is : cond {A = ℕ} (is_some retired.parts.origin) 0 1 ≡ cond {A = ℕ} has_origin 0 1 =
+            ap {B = ℕ} (λ (b : Bool). cond {A = ℕ} b 0 1) origin_is in
+            let less : sum_by lacks_origin (set row k Free) + cond has_origin 0 1
+            ≡ sum_by lacks_origin row + 0 =
+            row_set lacks_origin row k (Accepted number has_origin started) Free below found in
+            let counts : new.counts.misdials ≡ old.counts.misdials =
+            ap (λ (c : NetCounts). c.misdials) handed.counts in
+            elim balance.dialed [ inl few ↦ inl (omega arith) | inr end ↦ inr (omega arith) ];
+      }
+
+module _ {C O : Type 0} where
+  -- the same of no client being lost
+
+  pub all_fresh : (places : ℕ) (net : NetSeen C O) → IsFreshNet net → HasAll (replicate places Free) net
+  all_fresh places net fresh =
+      let free : sum_by is_taken (replicate places Free) ≡ 0 = free_sum is_taken refl places in
+      let given = fresh.given in let handed = fresh.handed in omega arith
+
+  pub all_same : (row : List Connection) (old new : NetSeen C O) → new.given ≡ old.given
+      → IsHandedNothing old new → HasAll row old → HasAll row new
+  all_same row old new given nothing all = let handed = nothing.handed in omega arith
+
+  pub all_row : (row again : List Connection) (net : NetSeen C O) → IsSameRow row again → HasAll row net
+      → HasAll again net
+  all_row row again net alike all = let are = alike.taken in omega arith
+
+  pub all_in : (row : List Connection) (k number : ℕ) (has_origin : Bool) (old new : NetSeen C O)
+      → k < length row → get_or row k Free ≡ Free → new.given ≡ old.given + 1 → IsHandedNothing old new
+      → HasAll row old → HasAll (set row k (Accepted number has_origin false)) new
+  all_in row k number has_origin old new below free given nothing all =
+      let handed = nothing.handed in
+      let connected : sum_by is_taken (set row k (Accepted number has_origin false)) + 0
+      ≡ sum_by is_taken row + 1 =
+      row_set is_taken row k Free (Accepted number has_origin false) below free in omega arith
+
+  -- nor are more in the row or handed over than were given
+
+  pub no_more_fresh : (places : ℕ) (net : NetSeen C O) → IsFreshNet net
+      → HasNoMore (replicate places Free) net
+  no_more_fresh places net fresh =
+      let free : sum_by is_taken (replicate places Free) ≡ 0 = free_sum is_taken refl places in
+      let given = fresh.given in let handed = fresh.handed in omega arith
+
+  pub no_more_in : (row : List Connection) (k number : ℕ) (has_origin : Bool) (old new : NetSeen C O)
+      → k < length row → get_or row k Free ≡ Free → new.given ≡ old.given + 1 → IsHandedNothing old new
+      → HasNoMore row old → HasNoMore (set row k (Accepted number has_origin false)) new
+  no_more_in row k number has_origin old new below free given nothing few =
+      let handed = nothing.handed in
+      let connected : sum_by is_taken (set row k (Accepted number has_origin false)) + 0
+      ≡ sum_by is_taken row + 1 =
+      row_set is_taken row k Free (Accepted number has_origin false) below free in omega arith
+
+  pub no_more_out : (row : List Connection) (k number : ℕ) (has_origin started : Bool) (old new : NetSeen C O)
+      → k < length row → get_or row k Free ≡ Accepted number has_origin started
+      → new.handed ≡ old.handed + 1 → new.given ≡ old.given → HasNoMore row old
+      → HasNoMore (set row k Free) new
+  no_more_out row k number has_origin started old new below found handed given few =
+      let less : sum_by is_taken (set row k Free) + 1 ≡ sum_by is_taken row + 0 =
+      row_set is_taken row k (Accepted number has_origin started) Free below found in omega arith
+
+  pub all_out : (tells : Bool) (row : List Connection) (k number : ℕ) (has_origin started : Bool)
+      (retired : Retired C O) (old new : NetSeen C O) → k < length row
+      → get_or row k Free ≡ Accepted number has_origin started → IsHanded tells retired old new → HasAll row old
+      → HasAll (set row k Free) new
+  all_out tells row k number has_origin started retired old new below found handed all =
+      let more = handed.handed in
+      let given = handed.given in
+      let less : sum_by is_taken (set row k Free) + 1 ≡ sum_by is_taken row + 0 =
+      row_set is_taken row k (Accepted number has_origin started) Free below found in omega arith

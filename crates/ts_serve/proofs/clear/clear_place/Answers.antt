@@ -1,0 +1,31 @@
+-- The client that was in the row for the place was handed over, and the balance stays right.
+use Rattle.std.proofs.Common.{◌≡◌, ◌∙◌, get_or, subst, sym}
+use Rattle.std.proofs.lemmas.List.{get_or_read}
+use Rattle.ts_txn.specs.Net.{IsHanded}
+use Rattle.ts_serve.specs.declared.connection.Connection.TheVariants.{Free, Accepted}
+use Rattle.ts_serve.proofs.Balance.{balance_out, no_more_out}
+use Rattle.ts_serve.proofs.clear.clear_place.Goals as goal
+
+pub returns-in_ok-hand_over-clause-balance : goal.returns-in_ok-hand_over-clause-balance
+returns-in_ok-hand_over-clause-balance g c = λ tells terms fits misdials balance.
+    let row = c.args.row.now.items in
+    let connected = c.in-Accepted in
+    let old = g.N.ClientSource.seen c.args.net.now in
+    let new = g.N.ClientSource.seen c.hand_over.new.net in
+    let found : get_or row c.args.k Free ≡ Accepted connected.number connected.has_origin connected.started =
+    sym (get_or_read row c.args.k c.index.result.now c.requires.place c.index.ensures Free) ∙ connected.is in
+    let over = c.in_ok-hand_over.ensures.ok terms fits in
+    balance_out (g.W.Handler.is_done terms) misdials row c.args.k connected.number connected.has_origin connected.started
+    over.retired old new c.requires.place found
+    (subst (λ told. IsHanded told over.retired old new) tells over.handed) over.number_is over.origin_is
+    over.done balance
+
+pub returns-in_ok-hand_over-clause-no_more : goal.returns-in_ok-hand_over-clause-no_more
+returns-in_ok-hand_over-clause-no_more g c =
+    let row = c.args.row.now.items in
+    let connected = c.in-Accepted in
+    let found : get_or row c.args.k Free ≡ Accepted connected.number connected.has_origin connected.started =
+    sym (get_or_read row c.args.k c.index.result.now c.requires.place c.index.ensures Free) ∙ connected.is in
+    no_more_out row c.args.k connected.number connected.has_origin connected.started (g.N.ClientSource.seen c.args.net.now)
+    (g.N.ClientSource.seen c.hand_over.new.net) c.requires.place found c.in_ok-hand_over.ensures.more
+    c.hand_over.ensures.net.given

@@ -1,0 +1,32 @@
+-- What is left of a handler is handed over with the journal of its group.
+use Rattle.std.proofs.Common.{ap, sym, ◌∙◌}
+use Rattle.std.proofs.lemmas.Result.{on_ok_weaker}
+use Rattle.ts_group.specs.declared.either.Either.TheVariants.{One}
+use Rattle.ts_journal.proofs.Final.{is_kept}
+use Rattle.ts_serve.proofs.Tenants.{ended_in, one_handler}
+use Rattle.ts_serve.proofs.retire.hand_over.Goals as goal
+
+pub returns-clause-ok : goal.returns-clause-ok
+returns-clause-ok g c =
+    let group = c.args.group in
+    let over = c.requires.over in
+    let world = sym c.into_parts-world.ensures.0 ∙ c.in-One-Tenant.is ∙ ap One c.in-One-Tenant.field-0-is in
+    let handler = one_handler over.handler c.in-One-Tenant.handler (sym over.lives ∙ world) in
+    let kept = is_kept group.cx.log c.journal-journal.result.now c.entries.result.now
+    c.journal-journal.ensures c.entries.ensures.entries c.entries.ensures.lawful c.entries.ensures.state
+    c.known-2.ensures.lived_base c.known-2.ensures.lived
+    c.known-2.ensures.valid.counts in
+    on_ok_weaker c.retire-2.result
+    (λ handed terms fits. record {
+      retired = c.retire.result;
+      handed = handed;
+      number_is = c.retire.ensures.number ∙ ap g.W.Handler.number_of (sym handler) ∙ over.number_is;
+      origin_is = c.retire.ensures.origin ∙ ap g.W.Handler.holds_origin (sym handler) ∙ over.origin_is;
+      done = c.retire.ensures.done terms
+          (ended_in g.W.Slotted.fits g.W.Tenant.keeps g.W.World.sound g.P.Slotted.fits g.P.World.sound
+          g.P.World.only_asked g.P.World.is_first g.W.Handler.number_of g.W.Handler.holds_origin
+          g.W.Handler.is_ended c.args.number c.args.has_origin terms group c.in-One-Tenant.handler
+          c.into_parts-world.result.1
+          over world c.into_parts-world.ensures.1 kept fits);
+    })
+    c.retire-2.ensures.ok

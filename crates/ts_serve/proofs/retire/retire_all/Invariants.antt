@@ -1,0 +1,11 @@
+use Rattle.ts_slot.specs.Words.{tags_of, view, IsSeatOf}
+use Rattle.ts_serve.specs.Acceptor.{HasPlacesOf, IsAcceptorOf, KeepsAcceptor, KeepsSome, LosesNobody}
+use Rattle.ts_serve.proofs.retire.retire_all.Given as goal
+
+abbrev pub invariant-places : goal.invariant-places
+invariant-places g l =
+    IsSeatOf l.slots l.seat × KeepsSome (view l.initial.seat) (view l.seat)
+    × IsAcceptorOf l.acceptor (g.N.ClientSource.seen l.net)
+    × KeepsAcceptor g.N.ClientSource.tells g.W.Handler.is_done (HasPlacesOf (tags_of l.slots)) l.initial.acceptor l.acceptor
+    (g.N.ClientSource.seen l.initial.net) (g.N.ClientSource.seen l.net)
+    × LosesNobody l.initial.acceptor l.acceptor (g.N.ClientSource.seen l.initial.net) (g.N.ClientSource.seen l.net)

@@ -1,0 +1,39 @@
+-- The groups of a server that is closed fit their tags, and go on to do so.
+use Rattle.std.proofs.Common.{length, sym, ap, subst, ◌∙◌}
+use Rattle.ts_lists.proofs.Fronts.{taken_table}
+use Rattle.ts_lists.proofs.Pairs.{zip_from_found}
+use Rattle.ts_slot.specs.Words.{tags_of}
+use Rattle.ts_serve.specs.Opening.{FitServer}
+use Rattle.ts_serve.proofs.Servers.{FitsTag, fit_places}
+use Rattle.ts_serve.proofs.server.close_server.Goals as goal
+
+pub finish_left-requires : goal.finish_left-requires
+finish_left-requires g c = record {
+  fits = (
+    tags_of c.args.server.slots,
+    c.requires.asks,
+    subst (FitServer g.W.Slotted.fits g.W.Tenant.keeps g.W.World.sound g.P.Slotted.fits g.P.World.sound
+        g.P.World.only_asked g.P.World.is_first (tags_of c.args.server.slots)) (sym c.as_mut_slice.ensures.value)
+        (zip_from_found (FitsTag g.W.Slotted.fits g.W.Tenant.keeps g.W.World.sound g.P.Slotted.fits
+        g.P.World.sound g.P.World.only_asked g.P.World.is_first) (tags_of c.args.server.slots)
+        c.in-Ok.groups.items c.in-Ok.ensures.count (λ k x at. (c.in-Ok.ensures.values k x at).fit)),
+  );
+}
+
+pub returns-clause-balance : goal.returns-clause-balance
+returns-clause-balance g c = λ telling terms places misdials balance.
+    let tags = tags_of c.args.server.slots in
+    let fit = subst (FitServer g.W.Slotted.fits g.W.Tenant.keeps g.W.World.sound g.P.Slotted.fits
+    g.P.World.sound g.P.World.only_asked g.P.World.is_first tags) (sym c.as_mut_slice.ensures.value)
+    (zip_from_found (FitsTag g.W.Slotted.fits g.W.Tenant.keeps g.W.World.sound g.P.Slotted.fits
+    g.P.World.sound g.P.World.only_asked g.P.World.is_first) tags c.in-Ok.groups.items
+    c.in-Ok.ensures.count (λ k x at. (c.in-Ok.ensures.values k x at).fit)) in
+    let done = c.finish_left.ensures.fit tags fit in
+    let long = c.finish_left.ensures.count ∙ ap length c.as_mut_slice.ensures.value ∙ sym c.in-Ok.groups.ok.0 in
+    c.clear_places.ensures.balance telling terms
+    (fit_places g.W.Slotted.fits g.W.Tenant.keeps g.W.World.sound g.P.Slotted.fits g.P.World.sound
+    g.P.World.only_asked g.P.World.is_first tags terms _ places
+    (taken_table (FitServer g.W.Slotted.fits g.W.Tenant.keeps g.W.World.sound g.P.Slotted.fits g.P.World.sound
+    g.P.World.only_asked g.P.World.is_first tags) c.in-Ok.groups.len c.finish_left.new.groups
+    c.in-Ok.groups.items long done))
+    misdials balance

@@ -1,0 +1,56 @@
+-- A transaction in a place, and what is left of it once it has ended there.
+use Rattle.std.specs.Prelude.{◌≡◌, ℕ, Bool, Some, false}
+use Rattle.std.specs.Arc.{arc_value}
+use Rattle.ts_config.specs.declared.setup.Setup.{Setup}
+use Rattle.ts_config.specs.declared.setup.TransformLine.{TransformLine}
+use Rattle.ts_exchange.specs.Ends.{Ends, IsTagBetween}
+use Rattle.ts_exchange.specs.Left.{Exchanges, IsApart, IsBetween}
+use Rattle.ts_exchange.specs.declared.exchange.ExchangeSetting.{ExchangeSetting}
+use Rattle.ts_exchange.specs.declared.exchange.Promise.{Promise}
+use Rattle.ts_hooks.specs.declared.txn_end.TxnEnd.{TxnEnd}
+use Rattle.ts_journal.specs.Final.{IsFinal}
+use Rattle.ts_link.specs.Link.{Look}
+use Rattle.ts_link.specs.declared.link.Link as link
+use Rattle.ts_transform.specs.declared.transform.Transform as transform
+use Rattle.ts_upstream.specs.declared.upstream.Upstream as upstream
+use Rattle.ts_txn.specs.declared.retired.Retired.{Retired}
+use Rattle.ts_txn.specs.declared.txn.Txn.{Txn}
+use Rattle.ts_txn.specs.declared.txn.TxnTag.{TxnTag}
+use Rattle.ts_serve.specs.declared.exchanges.TxnTerms.{TxnTerms}
+
+-- the terms of a place are those of a setting
+pub record AreTerms (setting : ExchangeSetting) (terms : TxnTerms) : Type 0 where
+  pub setup : terms.setup.value ≡ arc_value setting.setup
+  pub plugins_at : terms.plugins_at ≡ setting.plugins_at
+
+-- These ends have the setup and the plugins of a place, and the number of the transaction between them is the
+-- name of its client.
+pub record AreEndsAt {C O : Type 0} (look : C → Look) (setup : Setup) (plugins_at : ℕ) (ends : Ends C O) :
+    Type 0 where
+  pub setup_is : ends.setup ≡ setup
+  pub plugins_are : ends.plugins_at ≡ plugins_at
+  pub named : (look ends.client).name ≡ ends.number
+
+-- the tag is that of a transaction between such ends, which promises nothing of them
+pub record KeepsTerms {C O : Type 0} (look : C → Look) (terms : TxnTerms) (tag : TxnTag C O) : Type 0 where
+  pub ends : Ends C O
+  pub ends_are : AreEndsAt look terms.setup.value terms.plugins_at ends
+  pub promise : Promise
+  pub tag_is : IsTagBetween ends promise false tag
+
+-- What is left of a transaction that has ended in its place: it had this setup and its plugins from this
+-- group on, its number is the name of its client's link, it is sound, it has an end, of it holds what holds of
+-- what is left between plain links, and the journal of its group is at rest with nothing pending.
+pub record IsTxnDone {C O Q : Type 0} (client : link.Ghosts C) (origin : link.Ghosts O)
+    (both : upstream.Ghosts O C) (stage : transform.Ghosts Q TransformLine) (setup : Setup) (plugins_at : ℕ)
+    (r : Retired C O) : Type 0 where
+  pub txn : Txn C O Q
+  pub left : IsApart txn r.parts
+  pub ends : Ends C O
+  pub ends_are : AreEndsAt client.look setup plugins_at ends
+  pub named : (client.look r.parts.client).name ≡ r.parts.number
+  pub between : IsBetween client origin both stage ends false txn r.journal.state
+  pub exchanges : Exchanges client origin both ends false r.journal.state r.parts
+  pub ending : TxnEnd
+  pub ended : r.parts.end ≡ Some ending
+  pub final : IsFinal r.journal

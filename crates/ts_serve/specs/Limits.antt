@@ -1,0 +1,12 @@
+-- The limits of serving.
+use Rattle.std.specs.Prelude.{◌≡◌, ◌^◌}
+use Rattle.ts_queue.specs.declared.TheConstants.{WHOLE_SHARE}
+use Rattle.ts_serve.specs.declared.acceptor.TheConstants.{PLACES}
+use Rattle.ts_serve.specs.declared.worker.TheConstants.{PAUSE}
+
+-- THE LIMITS OF SERVING: how many clients are served at a time at most; for how many milliseconds a thread pauses that
+-- has nothing to do; and into how many parts the queue's pass can be split.
+pub record AreLimits : Type 0 where
+  pub places : PLACES ≡ 256
+  pub pause : PAUSE ≡ 1
+  pub share : WHOLE_SHARE ≡ 2 ^ 32

@@ -1,0 +1,67 @@
+//! How a client is received, and its origin dialed.
+
+ghost use Rattle.std.specs.Prelude.{◌≡◌, ◌+◌, ◌<◌, ℕ, true, length, get_or};
+ghost use Rattle.ts_serve.specs.declared.connection.Connection.TheVariants as Connection;
+ghost use Rattle.ts_serve.specs.Arrivals.{Receives};
+ghost use Rattle.ts_serve.specs.Balance.{IsBalanced, HasAll, HasNoMore, row_after};
+
+use crate::connection::{Connection, add_connection};
+use crate::source::ClientSource;
+use crate::tenant::Handler;
+use ts_txn::{Accepted, Dialed};
+
+/// Who came.
+#[derive(Drop)]
+pub enum Arrival<C, O> {
+    /// A client, with its origin, if that was reached.
+    Came { client: C, origin: Option<O> },
+    /// No client is there yet.
+    Nobody,
+    /// None comes any more.
+    Closed,
+    Failed,
+}
+
+/// Accepts the client of this number, if one is there, dials its origin, and gives it the place k, which is
+/// free.
+pub fn receive<N: ClientSource, W: Handler<N::Client, N::Origin>>(
+    net: &mut N,
+    row: &mut Vec<Connection>,
+    k: u32,
+    number: u64,
+) -> Arrival<N::Client, N::Origin>
+    requires place { k < length row.old.items }
+    requires free { get_or row.old.items k Connection.Free ≡ Connection.Free }
+    requires number { number ≡ (N.seen net.old).given + 1 }
+    ensures receives { Receives N.Client.Link N.Origin.Link N.Origin.Upstream.own
+        number result (N.seen net.old) (N.seen net.new) }
+    ensures row { row.new.items ≡ row_after k number result row.old.items }
+    ensures balance { N.tells ≡ true → (terms : W.Terms) (misdials : ℕ)
+        → IsBalanced (W.is_done terms) misdials row.old.items (N.seen net.old)
+        → IsBalanced (W.is_done terms) misdials row.new.items (N.seen net.new) }
+    ensures all { HasAll row.old.items (N.seen net.old) → HasAll row.new.items (N.seen net.new) }
+    ensures no_more { HasNoMore row.old.items (N.seen net.old) → HasNoMore row.new.items (N.seen net.new) }
+{
+    let client = match net.accept() {
+        Accepted::Client(client) => client,
+        Accepted::Again => return Arrival::Nobody,
+        Accepted::Closed => return Arrival::Closed,
+        Accepted::Failed => return Arrival::Failed,
+    };
+    match net.dial() {
+        Dialed::Origin(origin) => {
+            add_connection(row, k, number, true);
+            Arrival::Came {
+                client,
+                origin: Some(origin),
+            }
+        }
+        Dialed::Failed => {
+            add_connection(row, k, number, false);
+            Arrival::Came {
+                client,
+                origin: None,
+            }
+        }
+    }
+}

@@ -1,0 +1,75 @@
+//! How places are cleared that nobody else has: what is left of each handler that has ended is handed to the
+//! net.
+
+ghost use Rattle.std.specs.Prelude.{◌≡◌, ◌<◌, ℕ, length};
+ghost use Rattle.ts_serve.specs.Balance.{HasNoMore, KeepsBalance};
+ghost use Rattle.ts_serve.specs.Acceptor.{IsNotAsked};
+ghost use Rattle.ts_serve.specs.Tenants.{FitPlaces, FitsTerms};
+
+use crate::acceptor::PLACES;
+use crate::connection::Connection;
+use crate::place::PlaceGroup;
+use crate::retire::{hand_over, has_ended};
+use crate::source::ClientSource;
+use crate::tenant::Handler;
+use std::collections::VecDeque;
+use ts_group::World;
+use ts_link::NoMemory;
+
+/// Hands what is left of the client in the place k to the net, if its handler has ended, and the place is free
+/// then. The group is that of the place. At want of memory, or where the handler has
+/// not ended, it is dropped.
+pub fn clear_place<
+    N: ClientSource,
+    W: Handler<N::Client, N::Origin> + Drop,
+    P: World<Question = W::Question, Reply = W::Reply> + Drop,
+>(net: &mut N, row: &mut Vec<Connection>, k: u32, group: PlaceGroup<W, P>) -> Result<(), NoMemory>
+    requires place { k < length row.old.items }
+    ensures row { length row.new.items ≡ length row.old.items }
+    ensures balance { KeepsBalance N.tells W.is_done
+        (λ terms. FitsTerms W.fits W.keeps W.sound P.fits P.sound P.only_asked P.is_first terms group)
+        row.old.items (N.seen net.old) row.new.items (N.seen net.new) }
+    ensures no_more { HasNoMore row.old.items (N.seen net.old) → HasNoMore row.new.items (N.seen net.new) }
+    ensures net { IsNotAsked (N.seen net.old) (N.seen net.new) }
+{
+    let Connection::Accepted {
+        number,
+        has_origin,
+        ..
+    } = row[k as usize]
+    else {
+        return Ok(());
+    };
+    if has_ended(&group, number, has_origin) {
+        hand_over(net, number, has_origin, group)?;
+        row[k as usize] = Connection::Free;
+    }
+    Ok(())
+}
+
+/// Hands what is left of each client that is in the row and whose handler has ended to the net. The groups are
+/// those of a server in their order, which nobody else has; they are dropped. Where memory lacks for what is
+/// left of one, that is dropped too.
+pub fn clear_places<
+    N: ClientSource,
+    W: Handler<N::Client, N::Origin> + Drop,
+    P: World<Question = W::Question, Reply = W::Reply> + Drop,
+>(net: &mut N, row: &mut Vec<Connection>, groups: Vec<PlaceGroup<W, P>>)
+    requires places { length row.old.items ≡ PLACES }
+    ensures row { length row.new.items ≡ PLACES }
+    ensures balance { KeepsBalance N.tells W.is_done
+        (λ terms. FitPlaces W.fits W.keeps W.sound P.fits P.sound P.only_asked P.is_first terms groups.items)
+        row.old.items (N.seen net.old) row.new.items (N.seen net.new) }
+    ensures no_more { HasNoMore row.old.items (N.seen net.old) → HasNoMore row.new.items (N.seen net.new) }
+    ensures net { IsNotAsked (N.seen net.old) (N.seen net.new) }
+{
+    let mut rest = VecDeque::from_vec(groups);
+    let mut k = 0;
+    'places: while let Some(group) = rest.pop_front() {
+        if k == PLACES {
+            return;
+        }
+        let _ = clear_place(net, row, k, group);
+        k += 1;
+    }
+}

@@ -1,0 +1,174 @@
+//! A net that is served by transactions of one setup, with the plugins of its lines beside them.
+
+ghost use Rattle.std.specs.Prelude.{◌≡◌, ◌<◌, ◌≤◌, is_some, true, IfOk};
+ghost use Rattle.std.specs.Arc.{arc_value};
+ghost use Rattle.ts_exchange.specs.Left.{has_ended, holds_origin, number_of};
+ghost use Rattle.ts_passing.specs.Lines.{ActsAsLines};
+ghost use Rattle.ts_thread.specs.declared.TheConstants.{MOST_THREADS};
+ghost use Rattle.ts_txn.specs.Making.{IsTxnSetup};
+ghost use Rattle.ts_txn.specs.Net.{IsFreshNet};
+ghost use Rattle.ts_txn.specs.World.{IsSoundTxn, IsTxnOf};
+ghost use Rattle.ts_serve.specs.declared.acceptor.TheConstants.{PLACES};
+ghost use Rattle.ts_serve.specs.declared.exchanges.TxnTerms.{TxnTerms};
+ghost use Rattle.ts_serve.specs.Arrivals.{IsArrival};
+ghost use Rattle.ts_serve.specs.Exchanges.{AreTerms, IsTxnDone, KeepsTerms};
+ghost use Rattle.ts_serve.specs.Served.{AreRetired, IsServed};
+ghost use Rattle.ts_serve.specs.Tenants.{MayLive};
+
+use crate::acceptor::{PLACES, Served};
+use crate::run::serve;
+use crate::service::Host;
+use crate::tenant::{Handler, Tenant};
+use std::alloc::Global;
+use std::snapshot::Snapshot;
+use std::sync::{Arc, Wait};
+use std::thread::Threads;
+use ts_config::{Setup, TransformLine};
+use ts_exchange::{
+    Exchange, ExchangeSetting, Promise, has_ended, has_origin, make_exchange, plugins_of,
+    take_apart,
+};
+use ts_hooks::HookAnswer;
+use ts_journal::Journal;
+use ts_link::{Clock, Gate, Link, NoMemory};
+use ts_plugin::{HookQuestion, HookReply, Plugin};
+use ts_transform::Transform;
+use ts_txn::{Net, Retired};
+use ts_upstream::Upstream;
+
+/// What a place promises of the transaction in it. The setup is for contracts alone, and takes no memory.
+#[derive(Drop)]
+pub struct TxnTerms {
+    pub setup: Snapshot<Setup>,
+    /// The group of the first plugin line.
+    pub plugins_at: u32,
+}
+
+// A place promises nothing of the links of a transaction, and others stood in it before.
+const PROMISE: Promise = Promise {
+    is_sure: false,
+    is_first: false,
+};
+
+/// Its tag says what the place promises, and that its number is the name of its client.
+impl<C: Link + Drop, O: Upstream<C> + Drop, P: Transform<Line = TransformLine> + Drop> Tenant
+    for Exchange<C, O, P> {
+    type Terms = TxnTerms;
+
+    ghost keeps = { KeepsTerms C.look };
+
+    // Whoever asks an empty place may continue, with the fields as they are.
+    fn reply_empty(question: HookQuestion) -> HookReply {
+        let HookQuestion {
+            hook: _,
+            host: _host,
+            fields,
+        } = question;
+        HookReply {
+            answer: Ok(HookAnswer::Continue),
+            fields,
+        }
+    }
+}
+
+impl<C: Link + Drop, O: Upstream<C> + Drop, P: Transform<Line = TransformLine> + Drop> Handler<C, O>
+    for Exchange<C, O, P> {
+    type Setting = ExchangeSetting;
+
+    ghost are_terms = { AreTerms };
+
+    ghost is_setting = { λ setting.
+        IsTxnSetup (arc_value setting.setup) setting.plugins_at × ActsAsLines P.Transform };
+
+    ghost number_of = { λ t. number_of t };
+
+    ghost holds_origin = { λ t. holds_origin t };
+
+    ghost is_ended = { λ t. has_ended t };
+
+    ghost is_done = { λ terms.
+        IsTxnDone C.Link O.Link O.Upstream.own P.Transform terms.setup.value terms.plugins_at };
+
+    // There is one value of the terms, since they show the setup and a number.
+    fn terms(setting: &ExchangeSetting) -> TxnTerms
+        ensures are { AreTerms setting.now result }
+        ensures only { (other : TxnTerms) → AreTerms setting.now other → other ≡ result }
+    {
+        TxnTerms {
+            setup: Snapshot::of(&*setting.setup),
+            plugins_at: setting.plugins_at,
+        }
+    }
+
+    fn make(
+        alloc: Global,
+        setting: &ExchangeSetting,
+        number: u64,
+        client: C,
+        origin: Option<O>,
+    ) -> Result<Exchange<C, O, P>, NoMemory>
+        requires setting { IsTxnSetup (arc_value setting.now.setup) setting.now.plugins_at
+            × ActsAsLines P.Transform }
+        requires arrival { IsArrival C.Link O.Link O.Upstream.own number client origin }
+        ensures number { IfOk result (λ exchange. number_of exchange ≡ number) }
+        ensures origin { IfOk result (λ exchange. holds_origin exchange ≡ is_some origin) }
+        ensures lives { IfOk result (λ exchange. (terms : TxnTerms) → AreTerms setting.now terms
+            → MayLive (IsTxnOf C.Link O.Link) (KeepsTerms C.look)
+            (λ t s roles. IsSoundTxn C.Link O.Link O.Upstream.own P.Transform t s.pending s.next roles)
+            terms exchange) }
+    {
+        let (exchange, _tag) = make_exchange(alloc, setting, number, PROMISE, client, origin)?;
+        Ok(exchange)
+    }
+
+    fn number(&self) -> u64 {
+        self.number()
+    }
+
+    fn has_origin(&self) -> bool {
+        has_origin(self)
+    }
+
+    fn has_ended(&self) -> bool {
+        has_ended(self)
+    }
+
+    fn retire(self, journal: Journal) -> Retired<C, O> {
+        Retired {
+            parts: take_apart(self),
+            journal,
+        }
+    }
+}
+
+/// Serves a net that has begun to listen, with so many event threads, until so many clients came, or it is
+/// closed or fails, and what is left of each transaction was handed to it. At most 256 transactions run at a
+/// time, all under this setup; the plugins of its lines have the groups behind their places. The net is
+/// served as `serve` says.
+pub fn serve_transactions<
+    N: Net,
+    Q: Transform<Line = TransformLine> + Drop + Send,
+    G: Gate + Sync,
+    C: Clock + Sync,
+    R: Threads + Wait + Sync,
+>(host: &Host<'_, G, C, R>, setup: Arc<Setup>, threads: u32, most: u32, net: &mut N) -> Served
+    requires setup { IsTxnSetup (arc_value setup) PLACES }
+    requires acts { ActsAsLines Q.Transform }
+    requires threads { (0 < threads) × (threads ≤ MOST_THREADS) }
+    requires net { IsFreshNet (N.seen net.old) }
+    ensures retired { N.tells ≡ true → AreRetired
+        (IsTxnDone N.Client.Link N.Origin.Link N.Origin.Upstream.own Q.Transform (arc_value setup) PLACES)
+        (N.seen net.old) (N.seen net.new) }
+    ensures served { IsServed result most (N.seen net.old) (N.seen net.new) }
+{
+    let Ok(plugins) = plugins_of(host.alloc, setup.plugins.as_slice()) else {
+        return Served::NoMemory;
+    };
+    let setting = ExchangeSetting {
+        setup,
+        plugins_at: PLACES,
+    };
+    serve::<N, Exchange<N::Client, N::Origin, Q>, Plugin, G, C, R>(
+        host, &setting, plugins, threads, most, net,
+    )
+}

@@ -1,0 +1,189 @@
+//! How a server is opened, with its slots, its queue, the first thread's desk and the acceptor, and closed where
+//! its threads ended early.
+
+ghost use Rattle.std.specs.Prelude.{◌≡◌, ◌+◌, ◌≤◌, ◌++◌, [], All, length, map, replicate, IfOk};
+ghost use Rattle.ts_group.specs.declared.either.EitherTag.TheVariants as EitherTag;
+ghost use Rattle.ts_slot.specs.Limits.{most_groups, whole_share};
+ghost use Rattle.ts_slot.specs.Words.{tags_of, view};
+ghost use Rattle.ts_thread.specs.Desks.{IsDeskOf};
+ghost use Rattle.ts_serve.specs.Acceptor.{HasPlacesOf, IsNotAsked, IsServerOf};
+ghost use Rattle.ts_serve.specs.Balance.{HasNoMore, KeepsBalance};
+ghost use Rattle.ts_serve.specs.Opening.{AreNewGroups, IsNewAcceptor, IsNewServer};
+ghost use Rattle.ts_serve.specs.Servers.{CanAskInServer, CanStandBeside, StandsBeside, server_tags};
+
+use crate::accept::empty_group;
+use crate::acceptor::{Acceptor, Listening, PLACES};
+use crate::clear::clear_places;
+use crate::connection::Connection;
+use crate::leftover::finish_left;
+use crate::place::PlaceGroup;
+use crate::service::Host;
+use crate::tenant::{Handler, Tenant};
+use std::alloc::Global;
+use std::collections::VecDeque;
+use std::sync::Wait;
+use ts_exchange::Tagged;
+use ts_group::{Either, EitherTag, Group, World};
+use ts_link::{Clock, Link, NoMemory};
+use ts_queue::EventQueue;
+use ts_slot::{Slots, Slotted};
+use ts_thread::Desk;
+use ts_txn::Net;
+use ts_upstream::Upstream;
+
+/// A server that was opened.
+#[derive(Drop)]
+pub struct Server<V: Slotted> {
+    pub slots: Slots<V>,
+    pub queue: EventQueue,
+    /// That of the first thread.
+    pub desk: Desk<V>,
+}
+
+/// An acceptor of so many clients at most, before anybody came.
+pub fn new_acceptor(alloc: Global, most: u32) -> Result<Acceptor, NoMemory>
+    ensures { IfOk result (IsNewAcceptor most) }
+{
+    let row = vec![in alloc; Connection::Free; PLACES as usize]?;
+    Ok(Acceptor {
+        row,
+        came: 0,
+        most,
+        listening: Listening::Open,
+        next: 0,
+    })
+}
+
+// The groups of empty places, each with the tag of its slot, and room for so many more.
+fn make_places<
+    C: Link,
+    O: Upstream<C>,
+    W: Handler<C, O> + Drop,
+    P: World<Question = W::Question, Reply = W::Reply> + Drop,
+>(
+    alloc: Global,
+    setting: &W::Setting,
+    more: usize,
+) -> Result<(Vec<PlaceGroup<W, P>>, Vec<EitherTag<W::Terms, P::Tag>>), NoMemory>
+where
+    W::Terms: Drop,
+    P::Tag: Drop,
+    requires few { PLACES + more ≤ most_groups }
+    ensures tags { IfOk result (λ r. (terms : W.Terms) → W.are_terms setting.now terms
+        → r.1.items ≡ replicate PLACES (EitherTag.One terms)) }
+    ensures groups { IfOk result (λ r. AreNewGroups
+        W.fits W.keeps W.sound P.fits P.sound P.only_asked P.is_first r.1.items r.0.items) }
+{
+    let mut groups = Vec::with_capacity(alloc, PLACES as usize + more)?;
+    let mut tags = Vec::with_capacity(alloc, PLACES as usize + more)?;
+    'places: for _place in 0..PLACES {
+        let group = empty_group(alloc, 0)?;
+        groups.push(group)?;
+        tags.push(EitherTag::One(W::terms(setting)))?;
+    }
+    Ok((groups, tags))
+}
+
+// The groups of the worlds that stand beside the places behind those of the places, with their tags.
+fn add_others<W: Tenant + Drop, P: World<Question = W::Question, Reply = W::Reply> + Drop>(
+    alloc: Global,
+    mut groups: Vec<PlaceGroup<W, P>>,
+    mut tags: Vec<EitherTag<W::Terms, P::Tag>>,
+    others: Vec<Tagged<P, P::Tag>>,
+) -> Result<(Vec<PlaceGroup<W, P>>, Vec<EitherTag<W::Terms, P::Tag>>), NoMemory>
+where
+    W::Terms: Drop,
+    P::Tag: Drop,
+    requires others { All (StandsBeside P.fits P.sound P.only_asked) others.items }
+    requires groups { AreNewGroups W.fits W.keeps W.sound P.fits P.sound P.only_asked P.is_first
+        tags.items groups.items }
+    ensures tags { IfOk result (λ r.
+        r.1.items ≡ tags.items ++ map (λ b. EitherTag.Other b.tag) others.items) }
+    ensures groups { IfOk result (λ r. AreNewGroups
+        W.fits W.keeps W.sound P.fits P.sound P.only_asked P.is_first r.1.items r.0.items) }
+{
+    let mut rest = VecDeque::from_vec(others);
+    'others: while let Some(beside) = rest.pop_front() {
+        let Tagged { world, tag } = beside;
+        let group = Group::make(alloc, Either::Other(world), 0)?;
+        groups.push(group)?;
+        tags.push(EitherTag::Other(tag))?;
+    }
+    Ok((groups, tags))
+}
+
+/// Opens a server: places of the terms of a setting, all of them empty, and behind them the groups of the
+/// worlds that stand beside the places.
+pub fn open_server<
+    C: Link,
+    O: Upstream<C>,
+    W: Handler<C, O> + Drop,
+    P: World<Question = W::Question, Reply = W::Reply> + Drop,
+>(
+    alloc: Global,
+    setting: &W::Setting,
+    others: Vec<Tagged<P, P::Tag>>,
+) -> Result<Server<PlaceGroup<W, P>>, NoMemory>
+where
+    W::Terms: Drop,
+    P::Tag: Drop,
+    requires others { CanStandBeside P.fits P.sound P.only_asked others.items }
+    ensures opened { IfOk result (λ server. (terms : W.Terms) → W.are_terms setting.now terms
+        → IsNewServer (server_tags terms others.items) server) }
+    ensures places { IfOk result (λ server. IsServerOf W.are_terms setting.now (tags_of server.slots)) }
+{
+    // There are terms, which are those of all places.
+    let _terms = W::terms(setting);
+    let (groups, tags) = make_places::<C, O, W, P>(alloc, setting, others.len())?;
+    let (groups, tags) = add_others(alloc, groups, tags, others)?;
+    let Ok((slots, seat)) = Slots::make(alloc, groups, tags) else {
+        return Err(NoMemory);
+    };
+    let (queue, pass) = EventQueue::make(alloc)?;
+    match Desk::make(alloc, seat, pass) {
+        Ok(desk) => Ok(Server { slots, queue, desk }),
+        Err(_) => Err(NoMemory),
+    }
+}
+
+/// Closes a server that nobody else uses: what is pending in its groups is handled, and what is left of each
+/// client that is accepted and whose handler has ended is handed to the net. Where memory lacks for that, the
+/// rest is dropped.
+pub fn close_server<
+    N: Net,
+    W: Handler<N::Client, N::Origin> + Drop,
+    P: World<Question = W::Question, Reply = W::Reply> + Drop,
+    G,
+    C: Clock,
+    R: Wait,
+>(
+    host: &Host<'_, G, C, R>,
+    net: &mut N,
+    server: Server<PlaceGroup<W, P>>,
+    row: &mut Vec<Connection>,
+)
+where
+    W::Terms: Drop,
+    P::Tag: Drop,
+    requires desk { IsDeskOf server.slots server.queue server.desk }
+    requires whole { ((view server.desk.seat).share ≡ whole_share) × ((view server.desk.seat).held ≡ []) }
+    requires asks { CanAskInServer W.fits W.keeps W.may_ask W.right W.answers
+        P.fits P.only_asked P.may_ask P.right P.answers (tags_of server.slots) }
+    requires places { length row.old.items ≡ PLACES }
+    ensures balance { KeepsBalance N.tells W.is_done (HasPlacesOf (tags_of server.slots))
+        row.old.items (N.seen net.old) row.new.items (N.seen net.new) }
+    ensures no_more { HasNoMore row.old.items (N.seen net.old) → HasNoMore row.new.items (N.seen net.new) }
+    ensures net { IsNotAsked (N.seen net.old) (N.seen net.new) }
+{
+    let Server {
+        slots,
+        queue: _queue,
+        desk,
+    } = server;
+    let (seat, _pass) = desk.into_parts();
+    let Ok(mut groups) = slots.close(host.alloc, seat) else {
+        return;
+    };
+    let _ = finish_left(host.rt, host.clock, groups.as_mut_slice());
+    clear_places(net, row, groups);
+}
