@@ -7,6 +7,7 @@ use Rattle.std.specs.Str.{bytes_eq}
 use Rattle.http_header.specs.FieldName.{is_field_name}
 use Rattle.http_header.specs.FieldValue.{FieldValue, plain_value}
 use Rattle.http_header.specs.Token.{is_value_byte, lowercase}
+use Rattle.ts_wire.specs.Forward.{is_hop}
 use Rattle.ts_config.specs.declared.fields.PluginLine.{PluginLine}
 use Rattle.ts_config.specs.declared.fields.PluginLine.TheVariants.{Deny, Header, SessionHeader}
 use Rattle.ts_config.specs.declared.fields.Rule.{Rule}
@@ -47,11 +48,7 @@ side_of word =
 -- 7.6.1), and those that the proxy itself sees to
 abbrev pub is_kept_name : List ℕ → Bool
 is_kept_name name =
-    bytes_eq name (codes "connection") || bytes_eq name (codes "keep-alive")
-    || bytes_eq name (codes "proxy-connection") || bytes_eq name (codes "te")
-    || bytes_eq name (codes "trailer") || bytes_eq name (codes "transfer-encoding")
-    || bytes_eq name (codes "upgrade") || bytes_eq name (codes "content-length")
-    || bytes_eq name (codes "host") || bytes_eq name (codes "via")
+    is_hop name || bytes_eq name (codes "host") || bytes_eq name (codes "via")
 
 -- the name that a word stands for, in lower case, if it is a field name that a rule may change
 abbrev pub rule_name : List ℕ → Option (List ℕ)

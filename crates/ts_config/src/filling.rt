@@ -32,7 +32,8 @@ fn file_served(kind: &InterceptKind) -> Option<&Octets>
     }
 }
 
-fn is_session(line: &PluginLine) -> bool
+/// Whether the line is one of a session's plugins, which acts behind those of all transactions.
+pub fn is_session(line: &PluginLine) -> bool
     ensures { result ≡ is_session line.now }
 {
     match line {

@@ -17,6 +17,7 @@ mod table;
 mod words;
 
 pub use fields::{PluginLine, Rule, Side, Sites};
+pub use filling::is_session;
 pub use laws::{early_stays, limits, one_reading, tells_so_far};
 pub use lines::cut_line;
 pub use print::print_config;

@@ -7,6 +7,7 @@ use crate::fields::{PluginLine, Rule, Side, Sites};
 use http_header::{HeaderName, HeaderNameError, HeaderValue, HeaderValueError};
 use std::alloc::Global;
 use ts_link::{NoMemory, Octets};
+use ts_wire::is_hop;
 
 // The most sites of a deny list.
 const MOST_SITES: usize = 64;
@@ -81,16 +82,7 @@ fn side_of(word: &[u8]) -> Option<Side>
 fn is_kept_name(name: &[u8]) -> bool
     ensures { result ≡ is_kept_name name.now }
 {
-    name == b"connection".as_slice()
-        || name == b"keep-alive".as_slice()
-        || name == b"proxy-connection".as_slice()
-        || name == b"te".as_slice()
-        || name == b"trailer".as_slice()
-        || name == b"transfer-encoding".as_slice()
-        || name == b"upgrade".as_slice()
-        || name == b"content-length".as_slice()
-        || name == b"host".as_slice()
-        || name == b"via".as_slice()
+    is_hop(name) || name == b"host".as_slice() || name == b"via".as_slice()
 }
 
 // The name that the word stands for, or nothing where no rule may have it.

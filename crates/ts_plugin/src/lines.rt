@@ -6,7 +6,7 @@ ghost use Rattle.ts_plugin.specs.Replies.{hook_of_side, hook_of};
 ghost use Rattle.ts_plugin.specs.Lines.{table_of};
 
 use std::alloc::Global;
-use ts_config::{PluginLine, Side};
+use ts_config::{PluginLine, Side, is_session};
 use ts_hooks::{Hook, HookTable};
 use ts_link::NoMemory;
 
@@ -28,16 +28,6 @@ pub fn hook_of(line: &PluginLine) -> Hook
         PluginLine::Deny { .. } => Hook::OsDns,
         PluginLine::Header { side, .. } => hook_of_side(*side),
         PluginLine::SessionHeader { side, .. } => hook_of_side(*side),
-    }
-}
-
-// Whether the plugin of a line is a session's.
-fn is_session(line: &PluginLine) -> bool
-    ensures { result ≡ is_session line.now }
-{
-    match line {
-        PluginLine::SessionHeader { .. } => true,
-        PluginLine::Deny { .. } | PluginLine::Header { .. } => false,
     }
 }
 
