@@ -93,4 +93,4 @@ module _ {N C O : Type 0} (client : link.Ghosts C) (origin : link.Ghosts O) (bot
   LeavesNet tells net_tells shelf shelf' (Some (Serve words)) n old new =
       IsServedNet client origin both tells net_tells shelf shelf' words n (seen old) (seen new)
       × IsLetBegin begins words.listen words.origin old new
-  LeavesNet tells net_tells shelf shelf' _ n old new = seen new ≡ seen old
+  LeavesNet tells net_tells shelf shelf' _ n old new = new ≡ old
