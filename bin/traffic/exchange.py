@@ -2,6 +2,7 @@
 
 # what is raised where a file of another program is not in the form that it should have
 FORM_FAULTS = (AttributeError, KeyError, OverflowError, RecursionError, TypeError, ValueError)
+MOST_SAID = 100
 
 
 class Exchange:
@@ -15,6 +16,14 @@ class Exchange:
 
 class LeftOut(Exception):
     """Why an exchange is not in the recording."""
+
+
+def said_of(fault):
+    """What is said of such a fault: a line of at most so many characters, whatever the file holds."""
+    if isinstance(fault, UnicodeDecodeError):
+        return f"byte {fault.start} is no {fault.encoding.upper()}"
+    said = repr(fault)
+    return said if len(said) <= MOST_SAID else f"{said[:MOST_SAID]} .."
 
 
 def octets(text):

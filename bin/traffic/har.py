@@ -6,7 +6,7 @@ import math
 import urllib.parse
 
 from . import wire
-from .exchange import FORM_FAULTS, Exchange, LeftOut, octets
+from .exchange import FORM_FAULTS, Exchange, LeftOut, octets, said_of
 
 # what a browser has undone of a body before it wrote it down, or what was said of one connection alone
 DROPPED = {b"content-encoding", b"transfer-encoding", b"content-length", b"connection", b"keep-alive"}
@@ -21,7 +21,7 @@ def exchanges(text, pauses=False):
         except LeftOut as reason:
             yield reason
         except FORM_FAULTS as fault:
-            yield LeftOut(f"it is no entry of a HAR file: {fault!r}")
+            yield LeftOut(f"it is no entry of a HAR file: {said_of(fault)}")
 
 
 def exchange_of(entry, pauses):

@@ -92,9 +92,7 @@ class Recordings:
             self.out = None
 
     def finish(self):
-        """Ends the last recording, and gives the names of all."""
-        if not self.names:
-            self.begin()
+        """Ends the last recording, and gives the names of all, of which there is one at least."""
         self.end()
         if len(self.names) == 1:
             os.rename(self.names[0], self.name)

@@ -5,7 +5,7 @@ import re
 import urllib.parse
 
 from . import wire, yaml
-from .exchange import FORM_FAULTS, Exchange, LeftOut, octets
+from .exchange import FORM_FAULTS, Exchange, LeftOut, octets, said_of
 from .recording import MOST_BYTES
 
 LATER_VERSIONS = ("2", "2.0", "3", "3.0")
@@ -25,7 +25,7 @@ def exchanges(text, pauses=False):
             except LeftOut as reason:
                 yield reason
             except FORM_FAULTS as fault:
-                yield LeftOut(f"it is no transaction of a session: {fault!r}")
+                yield LeftOut(f"it is no transaction of a session: {said_of(fault)}")
 
 
 def exchange_of(transaction, pauses):
