@@ -1,8 +1,6 @@
 //! Looks for a head at the front of what a link gave, and reads on where none is there yet.
-ghost use Rattle.std.specs.Prelude.{◌≡◌, ◌<◌, length};
 ghost use Rattle.ts_phases.specs.View.{GoesIf, side, side_if};
 ghost use Rattle.ts_phases.specs.Moving.{Seeks};
-ghost use Rattle.ts_phases.specs.Fronts.{FindsRead};
 
 use crate::head::Head;
 use crate::parts::Peer;
@@ -24,19 +22,6 @@ pub enum Found<H> {
     NoMemory,
 }
 
-/// Reads on, for a head that is not there yet.
-fn read_on<L: Link, H>(peer: &mut Peer<L>) -> Found<H>
-    requires { length peer.old.inbox < MAX_HEAD }
-    ensures found { FindsRead L.tells (side L.look peer.old) (side L.look peer.new) result }
-    ensures goes { L.goes peer.old.link peer.new.link }
-{
-    let most = MAX_HEAD - peer.inbox.len();
-    match peer.pull(most) {
-        Ok(answer) => Found::Read(answer),
-        Err(_) => Found::NoMemory,
-    }
-}
-
 /// Takes a head from the front of what the link gave, or makes one read of the link where none is there yet.
 pub(crate) fn seek<H: Head, L: Link>(alloc: Global, peer: &mut Peer<L>) -> Found<H>
     ensures found { Seeks H.has H.lacks L.tells (side L.look peer.old) (side L.look peer.new) result }
@@ -50,7 +35,13 @@ pub(crate) fn seek<H: Head, L: Link>(alloc: Global, peer: &mut Peer<L>) -> Found
             peer.inbox.take(used);
             Found::Head(head)
         }
-        Read::More => read_on(peer),
+        Read::More => {
+            let most = MAX_HEAD - peer.inbox.len();
+            match peer.inbox.pull(&mut peer.link, most) {
+                Ok(answer) => Found::Read(answer),
+                Err(_) => Found::NoMemory,
+            }
+        }
         Read::Bad => Found::Never,
         Read::TooLong => Found::Never,
     }
