@@ -329,10 +329,20 @@ fn a_group_asks_another(rt: HostRuntime) {
 // its seat.
 #[test]
 fn turns_at_a_slot_are_recorded(rt: HostRuntime) {
-    let group = Stepper::<Countdown>::group(rt.alloc(), 3).expect(&rt, MEMORY);
-    let groups = Vec::from_array(rt.alloc(), [group]).expect(&rt, MEMORY);
-    let tags = Vec::from_array(rt.alloc(), [3]).expect(&rt, MEMORY);
-    let (slots, mut seat) = Slots::make(rt.alloc(), groups, tags).expect(&rt, MEMORY);
+    let Ok(group) = Stepper::<Countdown>::group(rt.alloc(), 3) else {
+        panic!(rt; "{}", MEMORY)
+    };
+    let mut groups = Vec::new(rt.alloc());
+    let Ok(()) = groups.push(group) else {
+        panic!(rt; "{}", MEMORY)
+    };
+    let mut tags = Vec::new(rt.alloc());
+    let Ok(()) = tags.push(3) else {
+        panic!(rt; "{}", MEMORY)
+    };
+    let Ok((slots, mut seat)) = Slots::make(rt.alloc(), groups, tags) else {
+        panic!(rt; "{}", MEMORY)
+    };
     let mut other = slots.split(&mut seat);
     let left = [
         visit(&slots, &mut other, 0, 5),
@@ -340,7 +350,7 @@ fn turns_at_a_slot_are_recorded(rt: HostRuntime) {
     ];
     slots.join(&mut seat, other);
     let Ok(groups) = slots.close(rt.alloc(), seat) else {
-        panic!(rt; "ample memory")
+        panic!(rt; "{}", MEMORY)
     };
     let [group] = groups.as_slice() else {
         panic!(rt; "there is one group")
