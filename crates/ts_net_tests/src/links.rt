@@ -1,7 +1,6 @@
 //! Links over sockets: what comes through, what is answered and counted.
 use crate::loopback::{pair, read_waiting};
 use std::io;
-use std::test::Fail;
 use ts_link::{Got, Link, Put};
 use ts_net::{got_of, put_of};
 use ts_upstream::{Uploaded, Upstream};
@@ -10,27 +9,34 @@ use ts_upstream::{Uploaded, Upstream};
 fn goes_to_a_thread<L: Link + Send>(_link: &L) {}
 
 #[test]
-fn bytes_come_through_and_each_answer_is_counted(rt: HostRuntime) -> Result<(), Fail> {
-    let (mut client, mut served) = pair(&rt)?;
+fn bytes_come_through_and_each_answer_is_counted(rt: HostRuntime) {
+    let (mut client, mut served) = pair(&rt);
     goes_to_a_thread(&served);
     let mut room = [0u8; 8];
-    assert!(rt; served.name() == 1 && client.name() == 0);
-    assert!(rt; served.read(&mut room) == Got::Again);
-    assert!(rt; served.waits() == 1 && served.faults() == 0);
-    assert!(rt; client.write(b"ping") == Put::Took(4));
-    assert!(rt; read_waiting(&rt, &mut served, &mut room) == Got::Bytes(4));
-    assert!(rt; &room[..4] == b"ping".as_slice());
-    assert!(rt; served.upload(&mut client) == Uploaded::Done);
+    let names = (served.name(), client.name());
+    let early = (served.read(&mut room), served.waits(), served.faults());
+    let ping = client.write(b"ping");
+    let came = read_waiting(&rt, &mut served, &mut room);
+    let text = &room[..4] == b"ping".as_slice();
+    let uploaded = served.upload(&mut client);
+    assert!(rt; names == (1, 0) && early == (Got::Again, 1, 0));
+    assert!(rt; (ping, came, text) == (Put::Took(4), Got::Bytes(4), true));
     // A peer that closes over bytes that it has not read breaks the connection.
-    assert!(rt; served.write(b"pong") == Put::Took(4));
+    let pong = served.write(b"pong");
     drop(client);
-    assert!(rt; read_waiting(&rt, &mut served, &mut room) == Got::Failed);
-    assert!(rt; served.write(b"pong") == Put::Failed);
-    assert!(rt; served.faults() == 2);
-    let (client, mut served) = pair(&rt)?;
+    let broken = read_waiting(&rt, &mut served, &mut room);
+    let late = served.write(b"pong");
+    assert!(rt; (uploaded, pong) == (Uploaded::Done, Put::Took(4)));
+    assert!(rt; (broken, late, served.faults()) == (Got::Failed, Put::Failed, 2));
+}
+
+#[test]
+fn a_peer_that_has_read_all_closes_cleanly(rt: HostRuntime) {
+    let (client, mut served) = pair(&rt);
     drop(client);
-    assert!(rt; read_waiting(&rt, &mut served, &mut room) == Got::End);
-    Ok(())
+    let mut room = [0u8; 8];
+    let end = read_waiting(&rt, &mut served, &mut room);
+    assert!(rt; end == Got::End);
 }
 
 // The error of a number of Linux.

@@ -1,62 +1,62 @@
 //! Who listens: clients by number, and which errors are faults.
 ghost use Rattle.std.specs.Prelude.{⊤};
 
-use crate::loopback::{accept, dial, listen, pair, read_waiting};
+use crate::loopback::{MEMORY, REFUSED, accept, dial, listen, pair, read_waiting};
 use mio::net::TcpStream;
 use std::io;
-use std::test::Fail;
 use ts_link::Got;
 use ts_net::{Acceptor, Arrival, Listener, is_final};
 
 #[test]
-fn clients_have_their_number_as_name(rt: HostRuntime) -> Result<(), Fail> {
-    let mut listener = listen(&rt)?;
-    assert!(rt; listener.address()?.port() > 0);
-    assert!(rt; matches!(listener.accept(), Arrival::Again));
-    assert!(rt; listener.given() == 0);
-    let _clients = (dial(&rt, &listener)?, dial(&rt, &listener)?);
-    assert!(rt; accept(&rt, &mut listener)?.name() == 1);
-    assert!(rt; accept(&rt, &mut listener)?.name() == 2);
-    assert!(rt; listener.given() == 2);
-    Ok(())
+fn clients_have_their_number_as_name(rt: HostRuntime) {
+    let mut listener = listen(&rt);
+    let port = listener.address().expect(&rt, REFUSED).port();
+    let early = matches!(listener.accept(), Arrival::Again);
+    let before = listener.given();
+    let _clients = (dial(&rt, &listener), dial(&rt, &listener));
+    let names = [
+        accept(&rt, &mut listener).name(),
+        accept(&rt, &mut listener).name(),
+    ];
+    assert!(rt; port > 0 && early && (before, names, listener.given()) == (0, [1, 2], 2));
 }
 
 // More clients than a backlog of 128 holds.
 const BURST: u64 = 200;
 
 #[test]
-fn a_burst_of_clients_is_accepted(rt: HostRuntime) -> Result<(), Fail> {
-    let mut listener = listen(&rt)?;
+fn a_burst_of_clients_is_accepted(rt: HostRuntime) {
+    let mut listener = listen(&rt);
     let mut links = Vec::new(rt.alloc());
     for _ in 0..BURST {
-        links.push(dial(&rt, &listener)?)?;
+        links.push(dial(&rt, &listener)).expect(&rt, MEMORY);
     }
     for number in 1..=BURST {
         let Arrival::Client(link) = listener.accept() else {
             panic!(rt; "no client {number}");
         };
         assert!(rt; link.name() == number);
-        links.push(link)?;
+        links.push(link).expect(&rt, MEMORY);
     }
     assert!(rt; matches!(listener.accept(), Arrival::Again));
-    Ok(())
 }
 
 #[test]
-fn both_ends_send_at_once(rt: HostRuntime) -> Result<(), Fail> {
-    let (client, served) = pair(&rt)?;
-    assert!(rt; client.into_stream().nodelay()? && served.into_stream().nodelay()?);
-    Ok(())
+fn both_ends_send_at_once(rt: HostRuntime) {
+    let (client, served) = pair(&rt);
+    let sends = client.into_stream().nodelay().expect(&rt, REFUSED);
+    let answers = served.into_stream().nodelay().expect(&rt, REFUSED);
+    assert!(rt; sends && answers);
 }
 
 // A client that left before it was accepted comes, and has ended.
 #[test]
-fn a_client_that_left_has_ended(rt: HostRuntime) -> Result<(), Fail> {
-    let mut listener = listen(&rt)?;
-    drop(dial(&rt, &listener)?);
-    let mut served = accept(&rt, &mut listener)?;
-    assert!(rt; read_waiting(&rt, &mut served, &mut [0]) == Got::End);
-    Ok(())
+fn a_client_that_left_has_ended(rt: HostRuntime) {
+    let mut listener = listen(&rt);
+    drop(dial(&rt, &listener));
+    let mut served = accept(&rt, &mut listener);
+    let end = read_waiting(&rt, &mut served, &mut [0]);
+    assert!(rt; end == Got::End);
 }
 
 // Whoever asks for a client is answered with the error of this number.
