@@ -4,11 +4,10 @@ ghost use Rattle.ts_config.specs.Setup.{lines_of};
 
 use std::alloc::Global;
 use std::process::Abort;
-use std::test::Fail;
 use ts_config::{
     ConfigKind, ConfigRefusal, Setup, Sites, TransformLine, print_config, read_config,
 };
-use ts_link::{NoMemory, Octets};
+use ts_link::Octets;
 
 /// Why a test has no outcome.
 const MEMORY: &str = "memory lacks";
@@ -40,22 +39,22 @@ fn has_wrong_arguments(alloc: Global, text: &[u8]) -> bool {
 }
 
 /// A line with a text of so many bytes at its end.
-fn long_line(alloc: Global, front: &[u8], len: usize) -> Result<Vec<u8>, NoMemory> {
-    let mut text = Vec::from_slice(alloc, front)?;
-    text.extend_from_slice(vec![in alloc; b'b'; len]?.as_slice())?;
-    text.push(b'\n')?;
-    Ok(text)
+fn long_line(rt: &(impl AllocGlobal + Abort), front: &[u8], len: usize) -> Vec<u8> {
+    let text = vec![in rt.alloc(); b'b'; len].expect(rt, MEMORY);
+    let mut line = Vec::from_slice(rt.alloc(), front).expect(rt, MEMORY);
+    line.extend_from_slice(text.as_slice()).expect(rt, MEMORY);
+    line.push(b'\n').expect(rt, MEMORY);
+    line
 }
 
 #[test]
-fn texts_of_the_greatest_length(rt: HostRuntime) -> Result<(), Fail> {
+fn texts_of_the_greatest_length(rt: HostRuntime) {
     for front in [b"prepend.so ".as_slice(), b"header.so request set a "] {
-        let most = long_line(rt.alloc(), front, 16_384)?;
+        let most = long_line(&rt, front, 16_384);
         assert!(rt; prints_itself(&rt, rt.alloc(), most.as_slice()));
-        let longer = long_line(rt.alloc(), front, 16_385)?;
+        let longer = long_line(&rt, front, 16_385);
         assert!(rt; has_wrong_arguments(rt.alloc(), longer.as_slice()));
     }
-    Ok(())
 }
 
 /// The lines, and where the second one is an append, with this text of its file.
@@ -79,21 +78,22 @@ fn append_of(setup: &Setup) -> (&[u8], &[u8]) {
 }
 
 #[test]
-fn fills_lines(rt: HostRuntime) -> Result<(), Fail> {
-    let text = Octets::copy_of(rt.alloc(), b"XY")?;
+fn fills_lines(rt: HostRuntime) {
+    let text = Octets::copy_of(rt.alloc(), b"XY").expect(&rt, MEMORY);
     let lines = b"null_transform.so\nappend_transform.so f\n";
-    let setup = filled(read_config(rt.alloc(), lines)?, text);
+    let Ok(read) = read_config(rt.alloc(), lines) else {
+        panic!(rt; "two lines")
+    };
+    let setup = filled(read, text);
     assert_eq!(rt; append_of(&setup), (b"f".as_slice(), b"XY".as_slice()));
     assert_eq!(rt; printed(&rt, rt.alloc(), &setup).bytes(), lines.as_slice());
-    Ok(())
 }
 
 #[test]
-fn lists_sites(rt: HostRuntime) -> Result<(), Fail> {
-    let mut listed = Vec::new(rt.alloc());
-    listed.push(Octets::copy_of(rt.alloc(), b"a.example")?)?;
+fn lists_sites(rt: HostRuntime) {
+    let site = Octets::copy_of(rt.alloc(), b"a.example").expect(&rt, MEMORY);
+    let listed = Vec::from_array(rt.alloc(), [site]).expect(&rt, MEMORY);
     let sites = Sites::of_vec(listed);
-    let seen = (sites.site(0), sites.site(1), sites.sites().len());
-    assert_eq!(rt; seen, (Some(b"a.example".as_slice()), None, 1));
-    Ok(())
+    assert_eq!(rt; sites.site(0), Some(b"a.example".as_slice()));
+    assert_eq!(rt; (sites.site(1).is_none(), sites.sites().len()), (true, 1));
 }

@@ -1,13 +1,12 @@
 //! Long bodies through lines, and what each line has written in time.
-ghost use Rattle.std.specs.Prelude.{◌≡◌, ◌≤◌, false, IfOk};
+ghost use Rattle.std.specs.Prelude.{◌≡◌, ◌≤◌, false};
 ghost use Rattle.ts_transform.specs.declared.transform.TheConstants.{MOST_FED};
 
 use std::alloc::Global;
 use std::process::Abort;
-use std::test::Fail;
 use ts_config::{Setup, TransformLine, read_config};
 use ts_iobuf::Waiting;
-use ts_link::{NoMemory, Octets};
+use ts_link::Octets;
 use ts_stock::Stock;
 use ts_transform::{Chain, MOST_FED, Transform};
 
@@ -15,31 +14,31 @@ use ts_transform::{Chain, MOST_FED, Transform};
 const MEMORY: &str = "memory lacks";
 
 /// The lines of a configuration, where each of their files holds `>`.
-fn filled(alloc: Global, config: &[u8]) -> Result<Setup, Fail> {
-    let mut setup = read_config(alloc, config)?;
-    fill_all(alloc, &mut setup)?;
-    Ok(setup)
+fn filled(rt: &impl Abort, alloc: Global, config: &[u8]) -> Setup {
+    let mut setup = read_config(alloc, config).expect(rt, "a configuration");
+    fill_all(rt, alloc, &mut setup);
+    setup
 }
 
-fn fill_all(alloc: Global, setup: &mut Setup) -> Result<(), NoMemory> {
+fn fill_all(rt: &impl Abort, alloc: Global, setup: &mut Setup) {
     for k in 0..setup.transforms.len() {
-        let text = Octets::copy_of(alloc, b">")?;
+        let text = Octets::copy_of(alloc, b">").expect(rt, MEMORY);
         if let Some(TransformLine::Append { .. }) = setup.transforms.get(k) {
             setup.fill(k, text);
         }
     }
-    Ok(())
 }
 
 /// The chain of these lines, to which nothing was given.
-fn chain_of(alloc: Global, lines: &[TransformLine]) -> Result<Chain<Stock>, NoMemory>
-    ensures { IfOk result (λ chain. chain.given ≡ false) }
+fn chain_of(rt: &impl Abort, alloc: Global, lines: &[TransformLine]) -> Chain<Stock>
+    ensures { result.given ≡ false }
 {
     let mut parts = Vec::new(alloc);
     for line in lines {
-        parts.push(Stock::fresh(alloc, line)?)?;
+        let part = Stock::fresh(alloc, line).expect(rt, MEMORY);
+        parts.push(part).expect(rt, MEMORY);
     }
-    Chain::make(alloc, parts)
+    Chain::make(alloc, parts).expect(rt, MEMORY)
 }
 
 /// Lets each stage work once.
@@ -74,7 +73,7 @@ fn drain(rt: &impl Abort, chain: &mut Chain<Stock>, out: &mut Vec<u8>) {
 /// What the lines make of a body.
 fn outcome(rt: &impl Abort, alloc: Global, lines: &[TransformLine], body: &[u8]) -> Vec<u8> {
     let mut out = Vec::new(alloc);
-    let mut chain = chain_of(alloc, lines).expect(rt, MEMORY);
+    let mut chain = chain_of(rt, alloc, lines);
     chain.give(body).expect(rt, MEMORY);
     chain.give_end();
     drain(rt, &mut chain, &mut out);
@@ -82,79 +81,54 @@ fn outcome(rt: &impl Abort, alloc: Global, lines: &[TransformLine], body: &[u8])
 }
 
 /// Holds what a line of a configuration makes of a body against the wanted bytes.
-fn check(
-    rt: &impl Abort,
-    alloc: Global,
-    config: &[u8],
-    body: &[u8],
-    want: &[u8],
-) -> Result<(), Fail> {
-    let setup = filled(alloc, config)?;
+fn check(rt: &impl Abort, alloc: Global, config: &[u8], body: &[u8], want: &[u8]) {
+    let setup = filled(rt, alloc, config);
     let out = outcome(rt, alloc, setup.transforms.as_slice(), body);
     assert_eq!(rt; out.as_slice(), want);
-    Ok(())
 }
 
 /// How often a long body has a `q` in place of an `x`, and how many bytes it has.
 const LONG: [(u32, u32); 4] = [(1, 65_537), (3, 65_537), (63, 65_537), (64, 64)];
 
 #[test]
-fn chains_give_long_bodies(rt: HostRuntime) -> Result<(), Fail> {
+fn chains_give_long_bodies(rt: HostRuntime) {
     for (every, len) in LONG {
-        let body = long_body(rt.alloc(), every, len, b'q', b'x')?;
-        let mapped = long_body(rt.alloc(), every, len, b'q', b'y')?;
-        check(
-            &rt,
-            rt.alloc(),
-            b"map.so x y",
-            body.as_slice(),
-            mapped.as_slice(),
-        )?;
-        check(
-            &rt,
-            rt.alloc(),
-            b"bnull_transform.so",
-            body.as_slice(),
-            body.as_slice(),
-        )?;
-        let front = long_body(rt.alloc(), every, len.min(65_536), b'q', b'x')?;
-        check(
-            &rt,
-            rt.alloc(),
-            b"limit.so 65536",
-            body.as_slice(),
-            front.as_slice(),
-        )?;
-        let kept = without_each(rt.alloc(), every, len, b'x')?;
-        check(
-            &rt,
-            rt.alloc(),
-            b"drop.so q",
-            body.as_slice(),
-            kept.as_slice(),
-        )?;
+        check_long(&rt, rt.alloc(), every, len);
     }
-    Ok(())
+}
+
+/// Holds what four lines make of a long body against the wanted bytes.
+fn check_long(rt: &impl Abort, alloc: Global, every: u32, len: u32) {
+    let body = long_body(rt, alloc, every, len, b'q', b'x');
+    let mapped = long_body(rt, alloc, every, len, b'q', b'y');
+    let front = long_body(rt, alloc, every, len.min(65_536), b'q', b'x');
+    let kept = without_each(rt, alloc, every, len, b'x');
+    let body = body.as_slice();
+    check(rt, alloc, b"map.so x y", body, mapped.as_slice());
+    check(rt, alloc, b"bnull_transform.so", body, body);
+    check(rt, alloc, b"limit.so 65536", body, front.as_slice());
+    check(rt, alloc, b"drop.so q", body, kept.as_slice());
 }
 
 /// A body of these many bytes, `at` at the multiples of `every` and else `other`.
-fn long_body(alloc: Global, every: u32, len: u32, at: u8, other: u8) -> Result<Vec<u8>, NoMemory> {
+fn long_body(rt: &impl Abort, alloc: Global, every: u32, len: u32, at: u8, other: u8) -> Vec<u8> {
     let mut body = Vec::new(alloc);
     for i in 0..len {
-        body.push(if i.is_multiple_of(every) { at } else { other })?;
+        let byte = if i.is_multiple_of(every) { at } else { other };
+        body.push(byte).expect(rt, MEMORY);
     }
-    Ok(body)
+    body
 }
 
 /// As many bytes as that body has besides the multiples of `every`.
-fn without_each(alloc: Global, every: u32, len: u32, byte: u8) -> Result<Vec<u8>, NoMemory> {
+fn without_each(rt: &impl Abort, alloc: Global, every: u32, len: u32, byte: u8) -> Vec<u8> {
     let mut body = Vec::new(alloc);
     for i in 0..len {
         if !i.is_multiple_of(every) {
-            body.push(byte)?;
+            body.push(byte).expect(rt, MEMORY);
         }
     }
-    Ok(body)
+    body
 }
 
 /// The body that each line is fed in time.
@@ -177,15 +151,14 @@ const IN_TIME: [(&[u8], &[u8], &[u8], u64); 11] = [
 ];
 
 #[test]
-fn writes_in_time(rt: HostRuntime) -> Result<(), Fail> {
+fn writes_in_time(rt: HostRuntime) {
     for (config, fed, ended, pause) in IN_TIME {
-        let setup = filled(rt.alloc(), config)?;
+        let setup = filled(&rt, rt.alloc(), config);
         match setup.transforms.first() {
             Some(line) => check_in_time(&rt, rt.alloc(), line, fed, ended, pause),
-            None => return Err(Fail::from("no line")),
+            None => panic!(rt; "no line"),
         }
     }
-    Ok(())
 }
 
 fn check_in_time(
@@ -228,15 +201,14 @@ fn holds(out: &Waiting, bytes: &[u8]) -> bool {
 }
 
 #[test]
-fn writes_the_same_from_a_buffer(rt: HostRuntime) -> Result<(), Fail> {
+fn writes_the_same_from_a_buffer(rt: HostRuntime) {
     for (config, fed, ended, _) in IN_TIME {
-        let setup = filled(rt.alloc(), config)?;
+        let setup = filled(&rt, rt.alloc(), config);
         match setup.transforms.first() {
             Some(line) => check_all_from(&rt, rt.alloc(), line, fed, ended),
-            None => return Err(Fail::from("no line")),
+            None => panic!(rt; "no line"),
         }
     }
-    Ok(())
 }
 
 /// Feeds a line from a buffer with a byte at once, with two, and with as many as may be, with the body cut at
