@@ -1,9 +1,8 @@
 //! Bodies between two links, driven to their ends.
 
 use crate::links::{Ending, Plan, SINGLE, WHOLE, carry, end_of, make_links, start};
-use crate::tail::{letter, letters, tails};
-use std::alloc::Global;
-use std::test::Fail;
+use crate::tail::{MEMORY, letter, letters, tails};
+use std::process::Abort;
 use ts_journal::{Event, MOST_KEYS};
 use ts_transform::{DriveFault, Loss, drive_links};
 
@@ -36,25 +35,27 @@ fn are_letters(bytes: &[u8]) -> bool {
 }
 
 // Carries so many letters from one link through null stages to the other.
-fn run_of(alloc: Global, plan: &Plan, texts: &[&[u8]], len: u32) -> Result<Carried, Fail> {
-    let mut group = make_links(alloc, plan, tails(alloc, texts)?, letters(alloc, len)?)?;
-    let most = carry(&mut group, plan)?;
+fn run_of(rt: &(impl AllocGlobal + Abort), plan: &Plan, texts: &[&[u8]], len: u32) -> Carried {
+    let body = letters(rt.alloc(), len).expect(rt, MEMORY);
+    let parts = tails(rt.alloc(), texts).expect(rt, MEMORY);
+    let mut group = make_links(rt, plan, parts, body);
+    let most = carry(rt, &mut group, plan);
     let (ending, output) = end_of(group, most);
-    Ok(Carried {
+    Carried {
         ending,
         written: output.written().len(),
         is_front: are_letters(output.written()),
-    })
+    }
 }
 
 // Whether three letters came whole through a null stage, with so many waits.
-fn comes_whole(alloc: Global, plan: &Plan, waits: (u64, u64)) -> Result<bool, Fail> {
-    let came = run_of(alloc, plan, ONE, 3)?;
-    Ok(came.is_front && came.written == 3 && came.ending.is_well(waits))
+fn comes_whole(rt: &(impl AllocGlobal + Abort), plan: &Plan, waits: (u64, u64)) -> bool {
+    let came = run_of(rt, plan, ONE, 3);
+    came.is_front && came.written == 3 && came.ending.is_well(waits)
 }
 
 #[test]
-fn a_body_comes_whole_through_a_chain_to_another_link(rt: HostRuntime) -> Result<(), Fail> {
+fn a_body_comes_whole_through_a_chain_to_another_link(rt: HostRuntime) {
     let cases = [
         (SINGLE, (0, 0)),
         (
@@ -73,15 +74,14 @@ fn a_body_comes_whole_through_a_chain_to_another_link(rt: HostRuntime) -> Result
         ),
     ];
     for (plan, waits) in &cases {
-        assert!(rt; comes_whole(rt.alloc(), plan, *waits)?);
+        assert!(rt; comes_whole(&rt, plan, *waits));
     }
-    let empty = run_of(rt.alloc(), &SINGLE, &[], 0)?;
+    let empty = run_of(&rt, &SINGLE, &[], 0);
     assert!(rt; empty.written == 0 && empty.ending.is_well((0, 0)));
-    Ok(())
 }
 
 #[test]
-fn no_event_of_any_kind_ends_the_run_between_links(rt: HostRuntime) -> Result<(), Fail> {
+fn no_event_of_any_kind_ends_the_run_between_links(rt: HostRuntime) {
     let events = [
         Event::Error,
         Event::ReadReady,
@@ -97,14 +97,13 @@ fn no_event_of_any_kind_ends_the_run_between_links(rt: HostRuntime) -> Result<()
                 told: Some((place, event)),
                 ..SINGLE
             };
-            assert!(rt; comes_whole(rt.alloc(), &plan, (0, 0))?);
+            assert!(rt; comes_whole(&rt, &plan, (0, 0)));
         }
     }
-    Ok(())
 }
 
 #[test]
-fn a_fault_of_a_link_aborts_the_chain(rt: HostRuntime) -> Result<(), Fail> {
+fn a_fault_of_a_link_aborts_the_chain(rt: HostRuntime) {
     let cases = [
         (
             Plan {
@@ -129,48 +128,45 @@ fn a_fault_of_a_link_aborts_the_chain(rt: HostRuntime) -> Result<(), Fail> {
         ),
     ];
     for (plan, most) in &cases {
-        let came = run_of(rt.alloc(), plan, ONE, 3)?;
+        let came = run_of(&rt, plan, ONE, 3);
         assert!(rt; came.ending.is_cut_off() && came.written <= *most);
     }
-    Ok(())
 }
 
 #[test]
-fn a_chain_is_lost_that_finds_the_table_full(rt: HostRuntime) -> Result<(), Fail> {
+fn a_chain_is_lost_that_finds_the_table_full(rt: HostRuntime) {
     for places in [0, 2] {
         let plan = Plan {
             strangers: PLACES.saturating_sub(places),
             ..SINGLE
         };
-        let came = run_of(rt.alloc(), &plan, ONE, 3)?;
-        assert!(rt; came.written == 0 && came.ending.lost == Some(Loss::TableFull));
-        assert!(rt; !came.ending.runs && !came.ending.is_aborted);
+        let came = run_of(&rt, &plan, ONE, 3);
+        let ended = (came.ending.lost, came.ending.runs, came.ending.is_aborted);
+        assert!(rt; came.written == 0 && ended == (Some(Loss::TableFull), false, false));
     }
-    Ok(())
 }
 
 #[test]
-fn a_chain_is_driven_until_the_numbers_of_turns_are_used_up(rt: HostRuntime) -> Result<(), Fail> {
+fn a_chain_is_driven_until_the_numbers_of_turns_are_used_up(rt: HostRuntime) {
     let plan = Plan {
         turns: u64::MAX - 2,
         ..SINGLE
     };
-    let parts = tails(rt.alloc(), ONE)?;
-    let mut group = make_links(rt.alloc(), &plan, parts, letters(rt.alloc(), 3)?)?;
-    start(&mut group, &plan)?;
-    assert!(rt; drive_links(&mut group, 1)? == false);
-    assert!(rt; drive_links(&mut group, 1) == Err(DriveFault::Spent));
-    Ok(())
+    let body = letters(rt.alloc(), 3).expect(&rt, MEMORY);
+    let parts = tails(rt.alloc(), ONE).expect(&rt, MEMORY);
+    let mut group = make_links(&rt, &plan, parts, body);
+    start(&rt, &mut group, &plan);
+    let driven = [drive_links(&mut group, 1), drive_links(&mut group, 1)];
+    assert!(rt; driven == [Ok(false), Err(DriveFault::Spent)]);
 }
 
 #[test]
-fn no_boundary_holds_as_much_as_a_full_one_and_a_read(rt: HostRuntime) -> Result<(), Fail> {
+fn no_boundary_holds_as_much_as_a_full_one_and_a_read(rt: HostRuntime) {
     let plan = Plan {
         take: 1_000,
         ..WHOLE
     };
-    let came = run_of(rt.alloc(), &plan, THREE, 200_000)?;
+    let came = run_of(&rt, &plan, THREE, 200_000);
     assert!(rt; came.is_front && came.written == 200_000 && came.ending.is_well((0, 0)));
     assert!(rt; came.ending.most < 98_304);
-    Ok(())
 }

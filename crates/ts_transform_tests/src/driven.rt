@@ -1,10 +1,9 @@
 //! A chain whose stages are continuations of a group that is not its own, fed and drained by hand.
 ghost use Rattle.std.specs.Prelude.{◌≡◌, true};
 
-use crate::tail::{Tail, tails};
+use crate::tail::{MEMORY, Tail, tails};
 use crate::worlds::make_group;
-use std::alloc::Global;
-use std::test::Fail;
+use std::process::Abort;
 use ts_group::Cx;
 use ts_journal::Event;
 use ts_transform::{Chain, DrivenChain};
@@ -46,79 +45,75 @@ fn runs_through(driven: &mut DrivenChain<Tail>, events: &[(u32, Event)], cx: &mu
 }
 
 // Takes the first block that waits, and answers whether it is this text.
-fn takes(driven: &mut DrivenChain<Tail>, text: &[u8], cx: &mut Cx) -> Result<bool, Fail>
+fn takes(rt: &impl Abort, driven: &mut DrivenChain<Tail>, text: &[u8], cx: &mut Cx) -> bool
     requires turn { cx.old.log.state.held ≡ true }
     ensures turn { cx.new.log.state.held ≡ true }
 {
     let Some(block) = driven.chain().out_block() else {
-        return Ok(false);
+        return false;
     };
     let is_text = block == text;
     let len = block.len();
-    driven.take(len, cx)?;
-    Ok(is_text)
+    driven.take(len, cx).expect(rt, MEMORY);
+    is_text
 }
 
 // Gives a chain its body, or its end.
-fn gives(driven: &mut DrivenChain<Tail>, body: &[u8], cx: &mut Cx) -> Result<(), Fail>
+fn gives(rt: &impl Abort, driven: &mut DrivenChain<Tail>, body: &[u8], cx: &mut Cx)
     requires turn { cx.old.log.state.held ≡ true }
     ensures turn { cx.new.log.state.held ≡ true }
 {
     if driven.chain().is_given() {
-        return Err("its end was given")?;
+        panic!(rt; "its end was given")
     }
     if body.is_empty() {
-        driven.give_end(cx)?;
+        driven.give_end(cx).expect(rt, MEMORY);
     } else {
-        driven.give(body, cx)?;
+        driven.give(body, cx).expect(rt, MEMORY);
     }
-    Ok(())
 }
 
 // Whether a chain that got a piece or the end runs through these events, and this text waits then.
 fn passes(
+    rt: &impl Abort,
     driven: &mut DrivenChain<Tail>,
     piece: &[u8],
     events: &[(u32, Event)],
     text: &[u8],
     cx: &mut Cx,
-) -> Result<bool, Fail>
+) -> bool
     requires turn { cx.old.log.state.held ≡ true }
     ensures turn { cx.new.log.state.held ≡ true }
 {
-    gives(driven, piece, cx)?;
-    if !runs_through(driven, events, cx) {
-        return Ok(false);
-    }
-    takes(driven, text, cx)
+    gives(rt, driven, piece, cx);
+    runs_through(driven, events, cx) && takes(rt, driven, text, cx)
 }
 
 // Starts a chain of two tails, feeds and drains it, and answers whether it ran all the time and gave its
 // body.
-fn runs_by_hand(driven: &mut DrivenChain<Tail>, cx: &mut Cx) -> Result<bool, Fail>
+fn runs_by_hand(rt: &impl Abort, driven: &mut DrivenChain<Tail>, cx: &mut Cx) -> bool
     requires turn { cx.old.log.state.held ≡ true }
 {
     if !driven.is_fresh() || driven.is_running() {
-        return Ok(false);
+        return false;
     }
     driven.start(FIRST, cx);
-    if !passes(driven, b"abc", EVENTS.as_slice(), b"abc", cx)? {
-        return Ok(false);
-    }
-    passes(driven, b"", LAST.as_slice(), b"11", cx)
+    passes(rt, driven, b"abc", EVENTS.as_slice(), b"abc", cx)
+        && passes(rt, driven, b"", LAST.as_slice(), b"11", cx)
 }
 
 // A chain of two tails that was not started.
-fn make_driven(alloc: Global) -> Result<DrivenChain<Tail>, Fail> {
-    let parts = tails(alloc, &[b"1".as_slice(), b"1".as_slice()])?;
-    Ok(DrivenChain::make(alloc, Chain::make(alloc, parts)?))
+fn make_driven(rt: &(impl AllocGlobal + Abort)) -> DrivenChain<Tail> {
+    let parts = tails(rt.alloc(), &[b"1".as_slice(), b"1".as_slice()]).expect(rt, MEMORY);
+    let chain = Chain::make(rt.alloc(), parts).expect(rt, MEMORY);
+    DrivenChain::make(rt.alloc(), chain)
 }
 
 #[test]
-fn a_driven_chain_is_fed_and_drained_by_hand(rt: HostRuntime) -> Result<(), Fail> {
-    let mut driven = make_driven(rt.alloc())?;
-    let mut group = make_group(rt.alloc(), &[], 0)?;
-    group.begin_turn(1, 0, 0)?;
-    assert!(rt; runs_by_hand(&mut driven, group.cx())?);
-    Ok(())
+fn a_driven_chain_is_fed_and_drained_by_hand(rt: HostRuntime) {
+    let mut driven = make_driven(&rt);
+    let mut group = make_group(&rt, &[], 0);
+    group.begin_turn(1, 0, 0).expect(&rt, MEMORY);
+    let runs = runs_by_hand(&rt, &mut driven, group.cx());
+    assert!(rt; runs);
 }

@@ -3,21 +3,21 @@
 
 use crate::by_hand::answers;
 use crate::links::{Plan, WHOLE, carry, end_of, make_links};
-use crate::tail::letters;
-use std::alloc::Global;
-use std::test::Fail;
+use crate::tail::{MEMORY, letters};
+use std::process::Abort;
 use ts_config::read_config;
 use ts_stock::Stock;
 use ts_transform::{Chain, Pumped, Transform};
 
 // The transforms of the lines of a configuration.
-fn parts_of(alloc: Global, config: &[u8]) -> Result<Vec<Stock>, Fail> {
-    let setup = read_config(alloc, config)?;
-    let mut parts = Vec::new(alloc);
+fn parts_of(rt: &(impl AllocGlobal + Abort), config: &[u8]) -> Vec<Stock> {
+    let setup = read_config(rt.alloc(), config).expect(rt, "a configuration");
+    let mut parts = Vec::new(rt.alloc());
     for line in setup.transforms.as_slice() {
-        parts.push(Stock::fresh(alloc, line)?)?;
+        let part = Stock::fresh(rt.alloc(), line).expect(rt, MEMORY);
+        parts.push(part).expect(rt, MEMORY);
     }
-    Ok(parts)
+    parts
 }
 
 // A chain of these lines that got a piece of a body, and then another one between the steps of its rows.
@@ -101,12 +101,17 @@ const ROWS: [Row; 6] = [
 ];
 
 // Gives a chain a piece and lets stages work, and tells whether each answers as its row says.
-fn steps(chain: &mut Chain<Stock>, piece: &[u8], rows: &[(usize, Pumped)]) -> Result<bool, Fail> {
+fn steps(
+    rt: &impl Abort,
+    chain: &mut Chain<Stock>,
+    piece: &[u8],
+    rows: &[(usize, Pumped)],
+) -> bool {
     if chain.is_given() {
-        return Ok(false);
+        return false;
     }
-    chain.give(piece)?;
-    answers(chain, rows)
+    chain.give(piece).expect(rt, MEMORY);
+    answers(rt, chain, rows)
 }
 
 // Whether each stage of a chain has ended, and nothing waits before any.
@@ -120,11 +125,8 @@ fn is_empty(chain: &Chain<Stock>) -> bool {
 }
 
 // Whether a chain wants no more, and drops what it is given.
-fn is_closed(chain: &mut Chain<Stock>) -> Result<bool, Fail> {
-    if chain.wants() || chain.must_read() || !steps(chain, b"x", &[])? {
-        return Ok(false);
-    }
-    Ok(is_empty(chain))
+fn is_closed(rt: &impl Abort, chain: &mut Chain<Stock>) -> bool {
+    !chain.wants() && !chain.must_read() && steps(rt, chain, b"x", &[]) && is_empty(chain)
 }
 
 // Takes the first block that waits for the client, if there is one, and tells whether it is this text.
@@ -139,59 +141,58 @@ fn takes(chain: &mut Chain<Stock>, text: &[u8]) -> bool {
 }
 
 // Whether a chain does as its row says, rests once nothing waits for its client, and has given all then.
-fn does(chain: &mut Chain<Stock>, row: &Row) -> Result<bool, Fail> {
-    if !chain.wants() || !chain.must_read() || !steps(chain, row.first, row.steps)? {
-        return Ok(false);
+fn does(rt: &impl Abort, chain: &mut Chain<Stock>, row: &Row) -> bool {
+    if !chain.wants() || !chain.must_read() || !steps(rt, chain, row.first, row.steps) {
+        return false;
     }
-    if !steps(chain, row.second, row.rest)? || !is_closed(chain)? {
-        return Ok(false);
+    if !steps(rt, chain, row.second, row.rest) || !is_closed(rt, chain) {
+        return false;
     }
     let rests = chain.rests();
     let is_text = takes(chain, row.out);
-    Ok(is_text && rests == row.out.is_empty() && chain.rests() && chain.is_finished())
+    is_text && rests == row.out.is_empty() && chain.rests() && chain.is_finished()
 }
 
 // Whether the chain of a row does as it says.
-fn check(alloc: Global, row: &Row) -> Result<bool, Fail> {
-    let mut chain = Chain::make(alloc, parts_of(alloc, row.lines)?)?;
-    does(&mut chain, row)
+fn check(rt: &(impl AllocGlobal + Abort), row: &Row) -> bool {
+    let parts = parts_of(rt, row.lines);
+    let mut chain = Chain::make(rt.alloc(), parts).expect(rt, MEMORY);
+    does(rt, &mut chain, row)
 }
 
 #[test]
-fn a_limit_closes_what_stands_before_it(rt: HostRuntime) -> Result<(), Fail> {
+fn a_limit_closes_what_stands_before_it(rt: HostRuntime) {
     for (place, row) in ROWS.iter().enumerate() {
-        assert!(rt; check(rt.alloc(), row)?, "row {place}");
+        assert!(rt; check(&rt, row), "row {place}");
     }
-    Ok(())
 }
 
 // So much waits behind a stage at most, before it is full.
 const FULL: usize = 65_536;
 
 // Whether the limit of a chain is done while its output is full, and ends once some of that was taken.
-fn ends_behind(chain: &mut Chain<Stock>, body: &[u8]) -> Result<bool, Fail> {
+fn ends_behind(rt: &impl Abort, chain: &mut Chain<Stock>, body: &[u8]) -> bool {
     let rows = [
         (0, Pumped::Moved(FULL / 2)),
         (0, Pumped::Moved(FULL / 2)),
         (0, Pumped::Blocked { waiting: FULL }),
     ];
-    if !steps(chain, body, &rows)? || !chain.wants() || chain.must_pump(0) {
-        return Ok(false);
+    if !steps(rt, chain, body, &rows) || !chain.wants() || chain.must_pump(0) {
+        return false;
     }
     takes(chain, b"");
-    if !chain.must_pump(0) {
-        return Ok(false);
-    }
-    let ended = answers(chain, &[(0, Pumped::Ended), (0, Pumped::Idle)])?;
-    Ok(ended && !chain.wants())
+    chain.must_pump(0)
+        && answers(rt, chain, &[(0, Pumped::Ended), (0, Pumped::Idle)])
+        && !chain.wants()
 }
 
 #[test]
-fn a_limit_ends_once_there_is_room_behind_it(rt: HostRuntime) -> Result<(), Fail> {
-    let mut chain = Chain::make(rt.alloc(), parts_of(rt.alloc(), b"limit.so 65536")?)?;
-    let body = vec![in rt.alloc(); b'x'; FULL]?;
-    assert!(rt; ends_behind(&mut chain, body.as_slice())?);
-    Ok(())
+fn a_limit_ends_once_there_is_room_behind_it(rt: HostRuntime) {
+    let body = vec![in rt.alloc(); b'x'; FULL].expect(&rt, MEMORY);
+    let parts = parts_of(&rt, b"limit.so 65536");
+    let mut chain = Chain::make(rt.alloc(), parts).expect(&rt, MEMORY);
+    let ends = ends_behind(&rt, &mut chain, body.as_slice());
+    assert!(rt; ends);
 }
 
 // How many letters a body without an end has, a read brings, and how many reads bring it.
@@ -214,24 +215,24 @@ const ENDLESS: [(&[u8], &[u8], u64); 5] = [
 ];
 
 // Whether a body without an end comes through these lines as this text, with fewer reads than so many.
-fn ends(alloc: Global, lines: &[u8], text: &[u8], too_far: u64) -> Result<bool, Fail> {
+fn ends(rt: &(impl AllocGlobal + Abort), lines: &[u8], text: &[u8], too_far: u64) -> bool {
     let plan = Plan {
         cuts: PIECES,
         cut: PIECE,
         fail_read: too_far,
         ..WHOLE
     };
-    let body = letters(alloc, PIECE * PIECES as u32)?;
-    let mut group = make_links(alloc, &plan, parts_of(alloc, lines)?, body)?;
-    let most = carry(&mut group, &plan)?;
+    let body = letters(rt.alloc(), PIECE * PIECES as u32).expect(rt, MEMORY);
+    let parts = parts_of(rt, lines);
+    let mut group = make_links(rt, &plan, parts, body);
+    let most = carry(rt, &mut group, &plan);
     let (ending, output) = end_of(group, most);
-    Ok(output.written() == text && ending.is_well((0, 0)))
+    output.written() == text && ending.is_well((0, 0))
 }
 
 #[test]
-fn a_body_without_an_end_is_not_read_on(rt: HostRuntime) -> Result<(), Fail> {
+fn a_body_without_an_end_is_not_read_on(rt: HostRuntime) {
     for (place, (lines, text, too_far)) in ENDLESS.iter().enumerate() {
-        assert!(rt; ends(rt.alloc(), *lines, *text, *too_far)?, "row {place}");
+        assert!(rt; ends(&rt, *lines, *text, *too_far), "row {place}");
     }
-    Ok(())
 }

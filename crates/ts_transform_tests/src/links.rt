@@ -1,9 +1,9 @@
 //! Runs of a chain between two links in memory: what is planned, and what came of it.
-ghost use Rattle.std.specs.Prelude.{◌≡◌, true, false, IfOk, OnOk};
+ghost use Rattle.std.specs.Prelude.{◌≡◌, true, false};
 ghost use Rattle.ts_transform.specs.Carrying.{IsCarriedGroup};
 
-use std::alloc::Global;
-use std::test::Fail;
+use crate::tail::MEMORY;
+use std::process::Abort;
 use ts_group::Group;
 use ts_journal::{ContKey, Event};
 use ts_link::{MemLink, Octets};
@@ -80,116 +80,120 @@ impl Ending {
     }
 }
 
+// The numbers of some calls.
+fn calls(rt: &(impl AllocGlobal + Abort), number: u64) -> Vec<u64> {
+    vec![in rt.alloc(); number; 1].expect(rt, MEMORY)
+}
+
 // The input of a plan.
-fn input_of(alloc: Global, plan: &Plan, body: Octets) -> Result<MemLink, Fail> {
-    let cuts = vec![in alloc; plan.cut; plan.cuts]?;
-    let fails = vec![in alloc; plan.fail_read; 1]?;
-    let again = vec![in alloc; plan.again_read; 1]?;
+fn input_of(rt: &(impl AllocGlobal + Abort), plan: &Plan, body: Octets) -> MemLink {
+    let alloc = rt.alloc();
+    let cuts = vec![in alloc; plan.cut; plan.cuts].expect(rt, MEMORY);
+    let fails = calls(rt, plan.fail_read);
+    let again = calls(rt, plan.again_read);
     let none = Vec::new(alloc);
     let never = Vec::new(alloc);
-    Ok(MemLink::make(alloc, body, cuts, 1, fails, none, again, never))
+    MemLink::make(alloc, body, cuts, 1, fails, none, again, never)
 }
 
 // The output of a plan.
-fn output_of(alloc: Global, plan: &Plan) -> Result<MemLink, Fail> {
-    let fails = vec![in alloc; plan.fail_write; 1]?;
-    let again = vec![in alloc; plan.again_write; 1]?;
+fn output_of(rt: &(impl AllocGlobal + Abort), plan: &Plan) -> MemLink {
+    let alloc = rt.alloc();
+    let fails = calls(rt, plan.fail_write);
+    let again = calls(rt, plan.again_write);
     let empty = Octets::of_vec(Vec::new(alloc));
     let whole = Vec::new(alloc);
     let none = Vec::new(alloc);
     let never = Vec::new(alloc);
     let take = plan.take.max(1);
-    Ok(MemLink::make(alloc, empty, whole, take, none, fails, never, again))
+    MemLink::make(alloc, empty, whole, take, none, fails, never, again)
 }
 
 /// The chain of these parts between the links of a plan, which had no turn here yet.
 pub fn make_links<P: Transform + Drop>(
-    alloc: Global,
+    rt: &(impl AllocGlobal + Abort),
     plan: &Plan,
     parts: Vec<P>,
     body: Octets,
-) -> Result<Links<P>, Fail>
-    ensures idle { IfOk result (λ g. g.cx.log.state.held ≡ false) }
-    ensures carried { IfOk result (λ g. IsCarriedGroup g) }
+) -> Links<P>
+    ensures idle { result.cx.log.state.held ≡ false }
+    ensures carried { IsCarriedGroup result }
 {
-    let input = input_of(alloc, plan, body)?;
-    let output = output_of(alloc, plan)?;
-    let world = LinkWorld::make(alloc, parts, input, output)?;
-    let group = Group::make(alloc, world, plan.turns)?;
-    Ok(group)
+    let input = input_of(rt, plan, body);
+    let output = output_of(rt, plan);
+    let world = LinkWorld::make(rt.alloc(), parts, input, output).expect(rt, MEMORY);
+    let group = Group::make(rt.alloc(), world, plan.turns).expect(rt, MEMORY);
+    group
 }
 
 // Begins the next turn.
-fn begin_turn<P: Transform + Drop>(group: &mut Links<P>) -> Result<(), Fail>
+fn begin_turn<P: Transform + Drop>(rt: &impl Abort, group: &mut Links<P>)
     requires idle { group.old.cx.log.state.held ≡ false }
     requires carried { IsCarriedGroup group.old }
-    ensures turn { OnOk result (group.new.cx.log.state.held ≡ true) }
-    ensures carried { OnOk result (IsCarriedGroup group.new) }
+    ensures turn { group.new.cx.log.state.held ≡ true }
+    ensures carried { IsCarriedGroup group.new }
 {
     let Some(turn) = group.journal().turns().checked_add(1) else {
-        return Err("a turn is left")?;
+        panic!(rt; "a turn is left")
     };
-    group.begin_turn(turn, 0, 0)?;
-    Ok(())
+    group.begin_turn(turn, 0, 0).expect(rt, MEMORY);
 }
 
 // Makes so many continuations of role 0, which is that of nobody.
-fn make_strangers<P: Transform + Drop>(group: &mut Links<P>, count: u32) -> Result<(), Fail>
+fn make_strangers<P: Transform + Drop>(rt: &impl Abort, group: &mut Links<P>, count: u32)
     requires turn { group.old.cx.log.state.held ≡ true }
     requires carried { IsCarriedGroup group.old }
-    ensures turn { OnOk result (group.new.cx.log.state.held ≡ true) }
-    ensures carried { OnOk result (IsCarriedGroup group.new) }
+    ensures turn { group.new.cx.log.state.held ≡ true }
+    ensures carried { IsCarriedGroup group.new }
 {
     'strangers: for _ in 0..count {
-        group.cx().make(0)?;
+        group.cx().make(0).expect(rt, MEMORY);
     }
-    Ok(())
 }
 
 /// Starts the chain of a plan in a turn.
-pub fn start<P: Transform + Drop>(group: &mut Links<P>, plan: &Plan) -> Result<(), Fail>
+pub fn start<P: Transform + Drop>(rt: &impl Abort, group: &mut Links<P>, plan: &Plan)
     requires idle { group.old.cx.log.state.held ≡ false }
     requires carried { IsCarriedGroup group.old }
-    ensures idle { OnOk result (group.new.cx.log.state.held ≡ false) }
-    ensures carried { OnOk result (IsCarriedGroup group.new) }
+    ensures idle { group.new.cx.log.state.held ≡ false }
+    ensures carried { IsCarriedGroup group.new }
 {
-    begin_turn(group)?;
-    make_strangers(group, plan.strangers)?;
+    begin_turn(rt, group);
+    make_strangers(rt, group, plan.strangers);
     group.start();
     group.give_turn();
-    Ok(())
 }
 
 // Makes a turn in which the continuation of a key is called with an event.
-fn tell<P: Transform + Drop>(group: &mut Links<P>, key: ContKey, event: Event) -> Result<(), Fail>
+fn tell<P: Transform + Drop>(rt: &impl Abort, group: &mut Links<P>, key: ContKey, event: Event)
     requires idle { group.old.cx.log.state.held ≡ false }
     requires carried { IsCarriedGroup group.old }
-    ensures idle { OnOk result (group.new.cx.log.state.held ≡ false) }
-    ensures carried { OnOk result (IsCarriedGroup group.new) }
+    ensures idle { group.new.cx.log.state.held ≡ false }
+    ensures carried { IsCarriedGroup group.new }
 {
-    begin_turn(group)?;
-    group.cx().call(key, event)?;
+    begin_turn(rt, group);
+    group.cx().call(key, event).expect(rt, MEMORY);
     group.give_turn();
-    Ok(())
 }
 
 // Tells the continuation at a place twice of an event, after the first turn.
 fn tell_twice<P: Transform + Drop>(
+    rt: &impl Abort,
     group: &mut Links<P>,
     place: usize,
     event: Event,
-) -> Result<(), Fail>
+)
     requires idle { group.old.cx.log.state.held ≡ false }
     requires carried { IsCarriedGroup group.old }
-    ensures idle { OnOk result (group.new.cx.log.state.held ≡ false) }
-    ensures carried { OnOk result (IsCarriedGroup group.new) }
+    ensures idle { group.new.cx.log.state.held ≡ false }
+    ensures carried { IsCarriedGroup group.new }
 {
-    drive_links(group, 1)?;
+    drive_links(group, 1).expect(rt, MEMORY);
     let Some(key) = group.journal().live().get(place).copied() else {
-        return Err("there is such a continuation")?;
+        panic!(rt; "there is such a continuation")
     };
-    tell(group, key, event)?;
-    tell(group, key, event)
+    tell(rt, group, key, event);
+    tell(rt, group, key, event);
 }
 
 // The most bytes that wait at one boundary of a chain.
@@ -202,31 +206,31 @@ fn widest<P: Transform + Drop>(chain: &Chain<P>) -> usize {
 }
 
 // Makes turns until nothing is pending, and answers the most bytes that waited at one boundary after one.
-fn run<P: Transform + Drop>(group: &mut Links<P>) -> Result<usize, Fail>
+fn run<P: Transform + Drop>(rt: &impl Abort, group: &mut Links<P>) -> usize
     requires idle { group.old.cx.log.state.held ≡ false }
     requires carried { IsCarriedGroup group.old }
 {
     let mut most = 0;
     'turns: for _ in 0..TURNS {
-        if drive_links(group, 1)? {
-            return Ok(most);
+        if drive_links(group, 1).expect(rt, MEMORY) {
+            return most;
         }
         most = most.max(widest(group.world().chain()));
     }
-    Err("it ends")?
+    panic!(rt; "it ends")
 }
 
 /// Starts the chain of a plan, and drives it to its end. It answers the most bytes that waited at one
 /// boundary.
-pub fn carry<P: Transform + Drop>(group: &mut Links<P>, plan: &Plan) -> Result<usize, Fail>
+pub fn carry<P: Transform + Drop>(rt: &impl Abort, group: &mut Links<P>, plan: &Plan) -> usize
     requires idle { group.old.cx.log.state.held ≡ false }
     requires carried { IsCarriedGroup group.old }
 {
-    start(group, plan)?;
+    start(rt, group, plan);
     if let Some((place, event)) = plan.told {
-        tell_twice(group, place, event)?;
+        tell_twice(rt, group, place, event);
     }
-    run(group)
+    run(rt, group)
 }
 
 /// How a run ended in which at most so many bytes waited at one boundary, and its output.

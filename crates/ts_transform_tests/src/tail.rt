@@ -10,6 +10,9 @@ use ts_iobuf::{IoBuffer, ReaderId};
 use ts_link::{NoMemory, Octets};
 use ts_transform::Transform;
 
+/// What a test that wants memory says.
+pub const MEMORY: &str = "ample memory";
+
 /// Passes a body on, and writes a tail behind it.
 #[derive(Drop)]
 pub struct Tail {

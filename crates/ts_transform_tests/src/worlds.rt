@@ -1,13 +1,11 @@
 //! Chains over one body, as worlds of groups, driven to their ends or aborted.
-ghost use Rattle.std.specs.Prelude.{◌≡◌, true, false, IfOk, OnOk};
+ghost use Rattle.std.specs.Prelude.{◌≡◌, true, false};
 ghost use Rattle.ts_transform.specs.World.{IsSoundGroup};
 
-use crate::tail::{Tail, letters, tails};
-use std::alloc::Global;
-use std::test::Fail;
+use crate::tail::{MEMORY, Tail, letters, tails};
+use std::process::Abort;
 use ts_group::{Group, Handling};
 use ts_journal::{ContKey, Event};
-use ts_link::NoMemory;
 use ts_transform::ChainWorld;
 
 // More turns than any of the runs takes.
@@ -17,95 +15,91 @@ const TURNS: u32 = 1_000;
 pub type Tails = Group<ChainWorld<Tail>>;
 
 /// The group of a chain of tails of these texts over so many letters, which had no turn yet.
-pub fn make_group(alloc: Global, texts: &[&[u8]], len: u32) -> Result<Tails, Fail>
-    ensures idle { IfOk result (λ g. g.cx.log.state.held ≡ false) }
-    ensures first { IfOk result (λ g. g.cx.log.state.turns ≡ 0) }
-    ensures sound { IfOk result (λ g. IsSoundGroup g) }
+pub fn make_group(rt: &(impl AllocGlobal + Abort), texts: &[&[u8]], len: u32) -> Tails
+    ensures idle { result.cx.log.state.held ≡ false }
+    ensures first { result.cx.log.state.turns ≡ 0 }
+    ensures sound { IsSoundGroup result }
 {
-    let parts = tails(alloc, texts)?;
-    let world = ChainWorld::make(alloc, parts, letters(alloc, len)?)?;
-    let group = Group::make(alloc, world, 0)?;
-    Ok(group)
+    let body = letters(rt.alloc(), len).expect(rt, MEMORY);
+    let parts = tails(rt.alloc(), texts).expect(rt, MEMORY);
+    let world = ChainWorld::make(rt.alloc(), parts, body).expect(rt, MEMORY);
+    let group = Group::make(rt.alloc(), world, 0).expect(rt, MEMORY);
+    group
 }
 
 // A chain of two tails over three bytes.
-fn make_two(alloc: Global) -> Result<Tails, Fail>
-    ensures idle { IfOk result (λ g. g.cx.log.state.held ≡ false) }
-    ensures sound { IfOk result (λ g. IsSoundGroup g) }
+fn make_two(rt: &(impl AllocGlobal + Abort)) -> Tails
+    ensures idle { result.cx.log.state.held ≡ false }
+    ensures sound { IsSoundGroup result }
 {
-    make_group(alloc, &[b"1".as_slice(), b"1".as_slice()], 3)
+    make_group(rt, &[b"1".as_slice(), b"1".as_slice()], 3)
 }
 
 // Begins the next turn.
-fn begin_turn(group: &mut Tails, moment: u64) -> Result<(), Fail>
+fn begin_turn(rt: &impl Abort, group: &mut Tails, moment: u64)
     requires idle { group.old.cx.log.state.held ≡ false }
     requires sound { IsSoundGroup group.old }
-    ensures turn { OnOk result (group.new.cx.log.state.held ≡ true) }
-    ensures sound { OnOk result (IsSoundGroup group.new) }
+    ensures turn { group.new.cx.log.state.held ≡ true }
+    ensures sound { IsSoundGroup group.new }
 {
     let Some(turn) = group.journal().turns().checked_add(1) else {
-        return Err("a turn is left")?;
+        panic!(rt; "a turn is left")
     };
-    group.begin_turn(turn, 0, moment)?;
-    Ok(())
+    group.begin_turn(turn, 0, moment).expect(rt, MEMORY);
 }
 
 // Starts the world in a turn.
-fn start(group: &mut Tails) -> Result<(), Fail>
+fn start(rt: &impl Abort, group: &mut Tails)
     requires idle { group.old.cx.log.state.held ≡ false }
     requires sound { IsSoundGroup group.old }
-    ensures idle { OnOk result (group.new.cx.log.state.held ≡ false) }
-    ensures sound { OnOk result (IsSoundGroup group.new) }
+    ensures idle { group.new.cx.log.state.held ≡ false }
+    ensures sound { IsSoundGroup group.new }
 {
-    begin_turn(group, 0)?;
+    begin_turn(rt, group, 0);
     group.start();
     group.give_turn();
-    Ok(())
 }
 
 // Makes a turn that handles the event of a number, and wakes the last stage.
-fn step(group: &mut Tails, number: u64, moment: u64) -> Result<(), Fail>
+fn step(rt: &impl Abort, group: &mut Tails, number: u64, moment: u64)
     requires idle { group.old.cx.log.state.held ≡ false }
     requires sound { IsSoundGroup group.old }
-    ensures idle { OnOk result (group.new.cx.log.state.held ≡ false) }
-    ensures sound { OnOk result (IsSoundGroup group.new) }
+    ensures idle { group.new.cx.log.state.held ≡ false }
+    ensures sound { IsSoundGroup group.new }
 {
-    begin_turn(group, moment)?;
-    let Handling::Handled { events: _ } = group.handle(number, moment)? else {
-        return Err("it is handled")?;
+    begin_turn(rt, group, moment);
+    let Handling::Handled { events: _ } = group.handle(number, moment).expect(rt, MEMORY) else {
+        panic!(rt; "it is handled")
     };
-    ChainWorld::wake(group)?;
+    ChainWorld::wake(group).expect(rt, MEMORY);
     group.give_turn();
-    Ok(())
 }
 
 // Makes at most so many turns, and stops where nothing is pending.
-fn run(group: &mut Tails, turns: u32) -> Result<(), Fail>
+fn run(rt: &impl Abort, group: &mut Tails, turns: u32)
     requires idle { group.old.cx.log.state.held ≡ false }
     requires sound { IsSoundGroup group.old }
-    ensures idle { OnOk result (group.new.cx.log.state.held ≡ false) }
-    ensures sound { OnOk result (IsSoundGroup group.new) }
+    ensures idle { group.new.cx.log.state.held ≡ false }
+    ensures sound { IsSoundGroup group.new }
 {
     'turns: for _ in 0..turns {
         let Some((due, number)) = group.next_due() else {
-            return Ok(());
+            return;
         };
-        step(group, number, due)?;
+        step(rt, group, number, due);
     }
-    Ok(())
 }
 
 // Makes a turn in which the stage of a key is called with an event.
-fn tell(group: &mut Tails, key: ContKey, event: Event) -> Result<(), Fail>
+fn tell(rt: &impl Abort, group: &mut Tails, key: ContKey, event: Event)
     requires idle { group.old.cx.log.state.held ≡ false }
     requires sound { IsSoundGroup group.old }
-    ensures idle { OnOk result (group.new.cx.log.state.held ≡ false) }
-    ensures sound { OnOk result (IsSoundGroup group.new) }
+    ensures idle { group.new.cx.log.state.held ≡ false }
+    ensures sound { IsSoundGroup group.new }
 {
-    begin_turn(group, 0)?;
-    group.cx().call(key, event)?;
+    begin_turn(rt, group, 0);
+    group.cx().call(key, event).expect(rt, MEMORY);
     group.give_turn();
-    Ok(())
 }
 
 // Aborts the chain of a world.
@@ -125,59 +119,65 @@ fn has_run(group: &Tails, is_finished: bool) -> bool {
 }
 
 // All that waits for the client, which takes it.
-fn drained(alloc: Global, group: &mut Tails) -> Result<Vec<u8>, NoMemory> {
-    let mut out = Vec::new(alloc);
+fn drained(rt: &(impl AllocGlobal + Abort), group: &mut Tails) -> Vec<u8> {
+    let mut out = Vec::new(rt.alloc());
     for _ in 0..TURNS {
         let Some(block) = group.world().chain().out_block() else {
             break;
         };
         let count = block.len();
-        out.extend_from_slice(block)?;
+        out.extend_from_slice(block).expect(rt, MEMORY);
         group.world_mut().take(count);
     }
-    Ok(out)
+    out
 }
 
 // What a chain of two tails gives that runs to its end, whose first stage or second is called twice with an
 // event after the first turn; `None` where it did not run to its end.
 fn given_with(
-    alloc: Global,
+    rt: &(impl AllocGlobal + Abort),
     group: &mut Tails,
     role: usize,
     event: Event,
-) -> Result<Option<Vec<u8>>, Fail>
+) -> Option<Vec<u8>>
     requires idle { group.old.cx.log.state.held ≡ false }
     requires sound { IsSoundGroup group.old }
 {
-    start(group)?;
-    run(group, 1)?;
+    start(rt, group);
+    run(rt, group, 1);
     let Some(key) = group.journal().live().get(role).copied() else {
-        return Err("there is such a stage")?;
+        panic!(rt; "there is such a stage")
     };
-    tell(group, key, event)?;
-    tell(group, key, event)?;
-    run(group, TURNS)?;
+    tell(rt, group, key, event);
+    tell(rt, group, key, event);
+    run(rt, group, TURNS);
     if !has_run(group, false) {
-        return Ok(None);
+        return None;
     }
-    let given = drained(alloc, group)?;
-    Ok(Some(given))
+    Some(drained(rt, group))
 }
 
 // Whether a chain gives nothing that is aborted after the first turn, and runs to its end.
-fn runs_aborted(group: &mut Tails) -> Result<bool, Fail>
+fn runs_aborted(rt: &impl Abort, group: &mut Tails) -> bool
     requires idle { group.old.cx.log.state.held ≡ false }
     requires sound { IsSoundGroup group.old }
 {
-    start(group)?;
-    run(group, 1)?;
+    start(rt, group);
+    run(rt, group, 1);
     abort(group);
-    run(group, TURNS)?;
-    Ok(has_run(group, true) && group.world().chain().out_block().is_none())
+    run(rt, group, TURNS);
+    has_run(group, true) && group.world().chain().out_block().is_none()
+}
+
+// Whether a chain of two tails gives all, whose stage of a role is called twice with an event.
+fn gives_all_with(rt: &(impl AllocGlobal + Abort), role: usize, event: Event) -> bool {
+    let mut group = make_two(rt);
+    let given = given_with(rt, &mut group, role, event);
+    given.as_ref().map(|g| g.as_slice()) == Some(b"abc11".as_slice())
 }
 
 #[test]
-fn no_event_of_any_kind_ends_the_run(rt: HostRuntime) -> Result<(), Fail> {
+fn no_event_of_any_kind_ends_the_run(rt: HostRuntime) {
     let events = [
         Event::Immediate,
         Event::Timeout,
@@ -192,17 +192,14 @@ fn no_event_of_any_kind_ends_the_run(rt: HostRuntime) -> Result<(), Fail> {
     ];
     for event in events {
         for role in 1..3 {
-            let mut group = make_two(rt.alloc())?;
-            let given = given_with(rt.alloc(), &mut group, role, event)?;
-            assert!(rt; given.as_ref().map(|g| g.as_slice()) == Some(b"abc11".as_slice()));
+            assert!(rt; gives_all_with(&rt, role, event));
         }
     }
-    Ok(())
 }
 
 #[test]
-fn a_world_that_is_aborted_gives_nothing_more(rt: HostRuntime) -> Result<(), Fail> {
-    let mut group = make_two(rt.alloc())?;
-    assert!(rt; runs_aborted(&mut group)?);
-    Ok(())
+fn a_world_that_is_aborted_gives_nothing_more(rt: HostRuntime) {
+    let mut group = make_two(&rt);
+    let gives_nothing = runs_aborted(&rt, &mut group);
+    assert!(rt; gives_nothing);
 }

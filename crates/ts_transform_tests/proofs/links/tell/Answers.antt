@@ -15,4 +15,4 @@ returns-clause-carried g c =
     (carried_kept cx now world (set_keeps cx now _ _ _ _ c.call.ensures.sets c.call.ensures.roles)
     (grows_next cx now c.call.ensures.grows)
     (subst (λ x. IsCarried world x.log.state.pending x.log.state.next x.roles) (sym c.cx.ensures.value)
-    c.in_ok-begin_turn.ensures.carried))
+    c.begin_turn.ensures.carried))

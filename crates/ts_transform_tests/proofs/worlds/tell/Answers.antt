@@ -6,7 +6,7 @@ use Rattle.ts_transform.proofs.Covering.{sound_kept}
 use Rattle.ts_transform_tests.proofs.worlds.tell.Goals as goal
 
 pub returns-clause-sound : goal.returns-clause-sound
-returns-clause-sound c =
+returns-clause-sound g c =
     let world = c.begin_turn.new.group.world in
     let cx = c.cx.result.now in
     let now = c.call.new.self in
@@ -14,4 +14,4 @@ returns-clause-sound c =
     (sound_kept cx now world.driven.chain world.driven.table.items world.driven.running
     (set_keeps cx now _ _ _ _ c.call.ensures.sets c.call.ensures.roles)
     (subst (λ x. IsSound world x.log.state.pending x.roles) (sym c.cx.ensures.value)
-    c.in_ok-begin_turn.ensures.sound))
+    c.begin_turn.ensures.sound))
