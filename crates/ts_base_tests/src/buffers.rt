@@ -50,8 +50,9 @@ fn two_readers_stand_at_places_of_their_own(rt: HostRuntime) {
     assert!(rt; buffer.is_reader(r) && buffer.is_reader(s));
     assert!(rt; buffer.avail(r) >= 2);
     buffer.consume(r, 2);
-    assert!(rt; buffer.avail(r) == 4 && buffer.avail(s) == 6);
-    assert!(rt; readable(&rt, &buffer, s).as_slice() == b"abcdef".as_slice());
+    let waiting = (buffer.avail(r), buffer.avail(s));
+    let all = readable(&rt, &buffer, s);
+    assert!(rt; waiting == (4, 6) && all.as_slice() == b"abcdef".as_slice());
 
     let rows: [(usize, usize, &[u8]); 3] = [(3, 1, b"def"), (9, 2, b"ef"), (9, 7, b"")];
     for (most, offset, bytes) in rows {
@@ -63,13 +64,13 @@ fn two_readers_stand_at_places_of_their_own(rt: HostRuntime) {
     assert!(rt; !room.is_empty());
     room[0] = b'h';
     buffer.produce(1);
-    assert!(rt; buffer.avail(s) == 7);
+    let behind = buffer.avail(s);
     let twin = buffer.clone_reader(r).expect(&rt, MEMORY);
     assert!(rt; buffer.is_reader(twin));
-    assert!(rt; buffer.avail(twin) == 5);
     let mut front = Vec::new(rt.alloc());
     buffer.copy_out(twin, 4, &mut front).expect(&rt, MEMORY);
-    assert!(rt; front.as_slice() == b"cdef".as_slice());
+    let counts = (behind, buffer.avail(twin));
+    assert!(rt; counts == (7, 5) && front.as_slice() == b"cdef".as_slice());
 }
 
 // Bytes of which no two that are less than 251 places apart are the same.
@@ -127,8 +128,7 @@ fn the_byte_after_a_full_block_stands_in_a_block_of_its_own(rt: HostRuntime) {
         panic!(rt; "a full block")
     };
     assert!(rt; first.len() == 4_096 && first.last() == Some(&b'y'));
-    assert!(rt; buffer.block(r, 1) == Some(b"z".as_slice()));
-    assert!(rt; buffer.block(r, 2).is_none());
+    assert!(rt; buffer.block(r, 1) == Some(b"z".as_slice()) && buffer.block(r, 2).is_none());
 }
 
 #[test]
@@ -142,8 +142,7 @@ fn the_index_of_a_freed_reader_is_used_again(rt: HostRuntime) {
     assert!(rt; !buffer.is_reader(first) && buffer.is_reader(other));
     let next = buffer.reader().expect(&rt, MEMORY);
     assert!(rt; next.index == first.index && next.generation > first.generation);
-    assert!(rt; !buffer.is_reader(first) && buffer.is_reader(next));
-    assert!(rt; buffer.avail(next) == 2);
+    assert!(rt; !buffer.is_reader(first) && buffer.is_reader(next) && buffer.avail(next) == 2);
 }
 
 // A large buffer is read to its end twice; that its memory is given back is measured elsewhere.
@@ -208,27 +207,26 @@ fn bytes_that_wait_stay_when_memory_is_given_back(rt: HostRuntime) {
     let all = waiting.len();
     waiting.take(all);
     waiting.give_back();
-    assert!(rt; waiting.is_empty());
+    let empty = waiting.is_empty();
     waiting.write(b"c").expect(&rt, MEMORY);
-    assert!(rt; waiting.block() == Some(b"c".as_slice()));
+    assert!(rt; empty && waiting.block() == Some(b"c".as_slice()));
 }
 
 #[test]
 fn a_reader_is_ready_at_the_water_mark(rt: HostRuntime) {
     let mut buffer = IoBuffer::new(rt.alloc()).expect(&rt, MEMORY);
     let r = buffer.reader().expect(&rt, MEMORY);
-    assert!(rt; buffer.is_reader(r));
-    assert!(rt; buffer.water_mark() == 0 && !buffer.ready(r));
-    buffer.set_water_mark(3);
-    buffer.write(b"ab").expect(&rt, MEMORY);
-    assert!(rt; buffer.water_mark() == 3 && !buffer.ready(r));
-    buffer.write(b"c").expect(&rt, MEMORY);
-    assert!(rt; buffer.ready(r));
     let stranger = ReaderId {
         index: 0,
         generation: 9,
     };
-    assert!(rt; !buffer.is_reader(stranger));
+    assert!(rt; buffer.is_reader(r) && !buffer.is_reader(stranger));
+    let none = (buffer.water_mark(), buffer.ready(r));
+    buffer.set_water_mark(3);
+    buffer.write(b"ab").expect(&rt, MEMORY);
+    let below = (buffer.water_mark(), buffer.ready(r));
+    buffer.write(b"c").expect(&rt, MEMORY);
+    assert!(rt; (none, below, buffer.ready(r)) == ((0, false), (3, false), true));
 }
 
 #[test]

@@ -52,12 +52,13 @@ fn a_link_is_pulled_and_pushed(rt: HostRuntime) {
         assert!(rt; pulled == answer);
     }
     assert!(rt; buffer.is_reader(reader));
-    assert!(rt; buffer.avail(reader) == 4);
-    assert!(rt; push(&mut buffer, reader, &mut ends) == Pushed::Again);
+    let waiting = buffer.avail(reader);
+    let first = push(&mut buffer, reader, &mut ends);
     assert!(rt; buffer.is_reader(reader));
-    assert!(rt; push(&mut buffer, reader, &mut ends) == Pushed::Some(2));
-    assert!(rt; ends.written() == b"ab".as_slice());
-    assert!(rt; ends.faults() == 1 && ends.waits() == 2);
+    let second = push(&mut buffer, reader, &mut ends);
+    assert!(rt; (waiting, first, second) == (4, Pushed::Again, Pushed::Some(2)));
+    let counts = (ends.faults(), ends.waits());
+    assert!(rt; ends.written() == b"ab".as_slice() && counts == (1, 2));
 }
 
 #[test]
@@ -95,17 +96,17 @@ const READER: ReaderId = ReaderId {
 fn a_connection_counts_what_it_moves(rt: HostRuntime) {
     let mut connection = VConn::make(KEY, 10, READER);
     connection.vio().advance(4);
-    assert!(rt; connection.vio().ntodo() == 6);
+    let before = connection.vio().ntodo();
     connection.shutdown();
-    assert!(rt; connection.vio().ntodo() == 0);
+    let after = connection.vio().ntodo();
     let vio = *connection.vio();
-    assert!(rt; vio.nbytes == 4 && vio.ndone == 4);
-    assert!(rt; !connection.closed());
+    let shut = connection.closed();
     connection.close();
-    assert!(rt; connection.closed());
     let mut other = VConn::make(KEY, 0, READER);
     other.abort();
-    assert!(rt; other.closed());
+    assert!(rt; (before, after, vio.nbytes, vio.ndone) == (6, 0, 4, 4));
+    let closed = [shut, connection.closed(), other.closed()];
+    assert!(rt; closed == [false, true, true]);
 }
 
 // The event is due at the moment of the turn.
@@ -117,9 +118,9 @@ fn a_vio_is_reenabled(rt: HostRuntime) {
     let mut connection = VConn::make(key, 3, READER);
     let vio = *connection.vio();
     let action = vio.reenable(group.cx()).expect(&rt, MEMORY);
-    assert!(rt; action.series == 1);
-    assert!(rt; group.next_due() == Some((7, 1)));
+    let due = group.next_due();
     group.give_turn();
+    assert!(rt; (action.series, due) == (1, Some((7, 1))));
 }
 
 // A link that gives these bytes in pieces of 1 and 2, and the rest, and takes three a write.
@@ -141,8 +142,8 @@ fn sure(rt: &(impl AllocGlobal + Abort), bytes: &[u8]) -> MemLink
 fn a_link_is_copied_to_its_end(rt: HostRuntime) {
     let waiting = Waiting::new(rt.alloc()).expect(&rt, MEMORY);
     let mut heard = pair(sure(&rt, b"abcdef"), DeafLink::new(), waiting);
-    assert!(rt; copy(&mut heard, 9) == End::Whole);
-    assert!(rt; heard.output.taken == 6);
+    let end = copy(&mut heard, 9);
+    assert!(rt; (end, heard.output.taken) == (End::Whole, 6));
     let waiting = Waiting::new(rt.alloc()).expect(&rt, MEMORY);
     let mut cut_off = pair(sure(&rt, b"abcdef"), DeafLink::new(), waiting);
     assert!(rt; copy(&mut cut_off, 2) == End::Turns);
@@ -152,6 +153,6 @@ fn a_link_is_copied_to_its_end(rt: HostRuntime) {
 fn a_link_is_copied_to_one_in_memory(rt: HostRuntime) {
     let waiting = Waiting::new(rt.alloc()).expect(&rt, MEMORY);
     let mut told = pair(sure(&rt, b"abcdefghij"), sure(&rt, b""), waiting);
-    assert!(rt; copy(&mut told, 9) == End::Whole);
-    assert!(rt; told.output.written() == b"abcdefghij".as_slice());
+    let end = copy(&mut told, 9);
+    assert!(rt; end == End::Whole && told.output.written() == b"abcdefghij".as_slice());
 }

@@ -1,10 +1,19 @@
 //! What a journal records, run on small examples.
 use crate::memory::MEMORY;
-use ts_journal::{ContKey, Entry, Event, Journal};
+use ts_journal::{ContKey, Counts, Entry, Event, Journal};
 
 const KEY: ContKey = ContKey {
     index: 0,
     generation: 1,
+};
+
+// The counts of a journal in which one event was set, which is pending.
+const ONE_PENDING: Counts = Counts {
+    set: 1,
+    handled: 0,
+    cancelled: 0,
+    dropped: 0,
+    pending: 1,
 };
 
 // The first turn of a group makes a continuation and sets a periodic event for it.
@@ -24,13 +33,10 @@ fn a_turn_is_recorded(rt: HostRuntime) {
     journal.push(Entry::Made { key: KEY });
     journal.push(set);
     journal.push(Entry::Gave { turn: 1 });
-    assert!(rt; journal.entries().len() == 4);
-    assert!(rt; journal.entries()[2] == set);
-    let counts = journal.counts();
-    assert!(rt; counts.set == 1 && counts.pending == 1);
-    assert!(rt; counts.handled == 0 && counts.cancelled == 0 && counts.dropped == 0);
-    assert!(rt; journal.live() == [KEY].as_slice());
-    assert!(rt; journal.event(1).is_some());
+    let entries = journal.entries();
+    assert!(rt; entries.len() == 4 && entries.get(2).copied() == Some(set));
+    assert!(rt; journal.live() == [KEY].as_slice() && journal.event(1).is_some());
+    assert!(rt; journal.counts() == ONE_PENDING);
 }
 
 // A journal that gives its memory back has what it had, and room for what it was to keep.
@@ -42,10 +48,9 @@ fn a_journal_is_trimmed(rt: HostRuntime) {
     journal.push(Entry::Made { key: KEY });
     journal.trim(1).expect(&rt, MEMORY);
     let kept = [Entry::Took { turn: 1, seat: 3 }, Entry::Made { key: KEY }];
-    assert!(rt; journal.entries() == kept.as_slice());
-    assert!(rt; journal.live() == [KEY].as_slice());
+    assert!(rt; journal.entries() == kept.as_slice() && journal.live() == [KEY].as_slice());
     journal.push(Entry::Gave { turn: 1 });
-    assert!(rt; !journal.is_held() && journal.turns() == 1);
+    assert!(rt; (journal.is_held(), journal.turns()) == (false, 1));
 }
 
 // A group that has its own continuation handles one event of it and destroys it.
@@ -67,12 +72,16 @@ fn a_key_goes(rt: HostRuntime) {
         moment: 5,
     });
     journal.push(Entry::Destroyed { key: KEY });
-    let counts = journal.counts();
-    assert!(rt; counts.set == 1 && counts.handled == 1);
-    assert!(rt; counts.cancelled == 0 && counts.dropped == 0 && counts.pending == 0);
-    assert!(rt; journal.live().is_empty());
-    assert!(rt; journal.is_held());
-    assert!(rt; journal.turns() == 7 && journal.next() == 2);
+    let wanted = Counts {
+        set: 1,
+        handled: 1,
+        cancelled: 0,
+        dropped: 0,
+        pending: 0,
+    };
+    assert!(rt; journal.counts() == wanted && journal.live().is_empty());
+    let seen = (journal.is_held(), journal.turns(), journal.next());
+    assert!(rt; seen == (true, 7, 2));
 }
 
 // A journal that is folded in a turn stores no entry, has what it had, and goes on from there.
@@ -91,15 +100,14 @@ fn a_journal_is_folded(rt: HostRuntime) {
         period: 10,
     });
     journal.fold();
-    assert!(rt; journal.entries().is_empty());
-    assert!(rt; journal.event(1).is_some());
-    assert!(rt; journal.live() == [KEY].as_slice());
-    assert!(rt; journal.newest_generation(0) == Some(1));
-    assert!(rt; journal.turns() == 1 && journal.next() == 2);
+    assert!(rt; journal.entries().is_empty() && journal.live() == [KEY].as_slice());
+    let numbers = (
+        journal.newest_generation(0),
+        journal.turns(),
+        journal.next(),
+    );
+    assert!(rt; numbers == (Some(1), 1, 2) && journal.event(1).is_some());
     journal.push(Entry::Gave { turn: 1 });
     assert!(rt; journal.entries() == [Entry::Gave { turn: 1 }].as_slice());
-    assert!(rt; !journal.is_held());
-    let counts = journal.counts();
-    assert!(rt; counts.set == 1 && counts.pending == 1);
-    assert!(rt; counts.handled == 0 && counts.cancelled == 0 && counts.dropped == 0);
+    assert!(rt; (journal.is_held(), journal.counts()) == (false, ONE_PENDING));
 }

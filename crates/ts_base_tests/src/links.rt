@@ -9,10 +9,10 @@ use ts_link::{
 
 #[test]
 fn octets_hold_what_they_were_made_of(rt: HostRuntime) {
+    let taken = Vec::from_slice(rt.alloc(), b"xy").expect(&rt, MEMORY);
     let copy = octets(&rt, b"abc");
-    assert!(rt; copy.bytes() == b"abc".as_slice());
-    let taken_over = Octets::of_vec(Vec::from_slice(rt.alloc(), b"xy").expect(&rt, MEMORY));
-    assert!(rt; taken_over.bytes() == b"xy".as_slice());
+    let taken_over = Octets::of_vec(taken);
+    assert!(rt; copy.bytes() == b"abc".as_slice() && taken_over.bytes() == b"xy".as_slice());
     assert!(rt; taken_over.into_vec().as_slice() == b"xy".as_slice());
 }
 
@@ -20,9 +20,8 @@ fn octets_hold_what_they_were_made_of(rt: HostRuntime) {
 fn a_sink_takes_two_bytes_a_call_and_fails_at_the_second(rt: HostRuntime) {
     let failing = vec![in rt.alloc(); 2u64].expect(&rt, MEMORY);
     let mut sink = MemSink::make(rt.alloc(), 2, failing);
-    assert!(rt; sink.write(b"abc") == Wrote::Took(2));
-    assert!(rt; sink.write(b"c") == Wrote::Failed);
-    assert!(rt; sink.write(b"c") == Wrote::Took(1));
+    let wrote = [sink.write(b"abc"), sink.write(b"c"), sink.write(b"c")];
+    assert!(rt; wrote == [Wrote::Took(2), Wrote::Failed, Wrote::Took(1)]);
     assert!(rt; sink.written() == b"abc".as_slice());
 }
 
@@ -78,6 +77,16 @@ fn read_on(
     (None, given)
 }
 
+// What four writes of three bytes answer.
+fn write_on(link: &mut MemLink) -> [Put; 4] {
+    [
+        link.write(b"xyz"),
+        link.write(b"xyz"),
+        link.write(b"xyz"),
+        link.write(b"xyz"),
+    ]
+}
+
 #[test]
 fn a_link_gives_pieces_and_goes_wrong_at_its_calls(rt: HostRuntime) {
     let plan = Plan {
@@ -102,13 +111,11 @@ fn a_link_gives_pieces_and_goes_wrong_at_its_calls(rt: HostRuntime) {
         Got::End,
     ];
     let (other, given) = read_on(&rt, &mut link, &answers);
+    let puts = write_on(&mut link);
     assert!(rt; other.is_none() && given.as_slice() == b"abcdefgh".as_slice());
-    let rows = [Put::Took(2), Put::Failed, Put::Again, Put::Took(2)];
-    for put in rows {
-        assert!(rt; link.write(b"xyz") == put);
-    }
-    assert!(rt; link.written() == b"xyxy".as_slice());
-    assert!(rt; link.faults() == 2 && link.waits() == 2);
+    assert!(rt; puts == [Put::Took(2), Put::Failed, Put::Again, Put::Took(2)]);
+    let counts = (link.faults(), link.waits());
+    assert!(rt; link.written() == b"xyxy".as_slice() && counts == (2, 2));
 }
 
 // Pieces with stalls before, between and behind them, of which one is empty.
@@ -137,21 +144,19 @@ fn a_link_of_pieces_stalls_and_leaves(rt: HostRuntime) {
         Got::End,
     ];
     let (other, given) = read_on(&rt, &mut link, &answers);
+    let puts = write_on(&mut link);
     assert!(rt; other.is_none() && given.as_slice() == b"abcdefg".as_slice());
-    let rows = [Put::Took(3), Put::Took(2), Put::Failed, Put::Failed];
-    for put in rows {
-        assert!(rt; link.write(b"xyz") == put);
-    }
-    assert!(rt; link.written() == b"xyzxy".as_slice());
-    assert!(rt; link.faults() == 2 && link.waits() == 3);
+    assert!(rt; puts == [Put::Took(3), Put::Took(2), Put::Failed, Put::Failed]);
+    let counts = (link.faults(), link.waits());
+    assert!(rt; link.written() == b"xyzxy".as_slice() && counts == (2, 3));
 }
 
 #[test]
 fn a_clock_steps_and_gates_open(rt: HostRuntime) {
     let clock = StepClock::make(5);
-    assert!(rt; clock.now() == 5 && clock.now() == 6);
+    let first = [clock.now(), clock.now()];
     clock.pause(10);
-    assert!(rt; clock.now() == 17);
+    assert!(rt; (first, clock.now()) == ([5, 6], 17));
     OpenGate::make().enter(0, 0, 1);
 
     // the one does not come

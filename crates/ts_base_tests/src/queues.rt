@@ -29,12 +29,12 @@ fn tickets_come_in_the_order_of_puts(rt: HostRuntime) {
     let (queue, mut pass) = EventQueue::make(rt.alloc()).expect(&rt, MEMORY);
     queue.put(&rt, &mut pass, token(1)).expect(&rt, MEMORY);
     queue.put(&rt, &mut pass, token(2)).expect(&rt, MEMORY);
-    assert!(rt; pass.serial() == 2);
-    assert!(rt; queue.take(&rt, &mut pass) == ticket(0, 1, 1));
-    assert!(rt; queue.take(&rt, &mut pass) == ticket(0, 2, 2));
-    assert!(rt; pass.empties() == 0);
-    assert!(rt; queue.take(&rt, &mut pass).is_none());
-    assert!(rt; pass.empties() == 1);
+    let serial = pass.serial();
+    let taken = [queue.take(&rt, &mut pass), queue.take(&rt, &mut pass)];
+    let before = pass.empties();
+    let none = queue.take(&rt, &mut pass);
+    assert!(rt; taken == [ticket(0, 1, 1), ticket(0, 2, 2)] && none.is_none());
+    assert!(rt; (serial, before, pass.empties()) == (2, 0, 1));
 }
 
 #[test]
@@ -42,13 +42,14 @@ fn passes_are_split_and_joined(rt: HostRuntime) {
     let (queue, mut first) = EventQueue::make(rt.alloc()).expect(&rt, MEMORY);
     queue.put(&rt, &mut first, token(7)).expect(&rt, MEMORY);
     let mut second = queue.split(&mut first).expect(&rt, MEMORY);
-    assert!(rt; second.serial() == 0);
+    let begun = second.serial();
     queue.put(&rt, &mut second, token(8)).expect(&rt, MEMORY);
-    assert!(rt; queue.take(&rt, &mut second) == ticket(0, 1, 7));
+    let seven = queue.take(&rt, &mut second);
     queue.join(&mut first, second);
-    assert!(rt; first.serial() == 1);
-    assert!(rt; queue.take(&rt, &mut first) == ticket(1, 1, 8));
-    assert!(rt; queue.take(&rt, &mut first).is_none());
+    let joined = first.serial();
+    let rest = [queue.take(&rt, &mut first), queue.take(&rt, &mut first)];
+    assert!(rt; (begun, joined) == (0, 1));
+    assert!(rt; (seven, rest) == (ticket(0, 1, 7), [ticket(1, 1, 8), None]));
 }
 
 // Puts tokens with the numbers from 1 on.

@@ -114,8 +114,8 @@ fn enters_twice(slots: &Slots<Rising>, seat: &mut Seat<Rising>) -> Option<(u64, 
 fn a_held_group_is_missed(rt: HostRuntime) {
     let (slots, mut seat) = one_group(&rt, 5);
     let answers = enters_twice(&slots, &mut seat);
-    assert!(rt; answers == Some((1, 1, Left::Freed, 2)));
-    assert!(rt; slots.groups() == 1 && seat.number() == 0);
+    let numbers = (slots.groups(), seat.number());
+    assert!(rt; (answers, numbers) == (Some((1, 1, Left::Freed, 2)), (1, 0)));
 }
 
 // One turn of each of two groups at a time, of which the group that was entered first is left first.
@@ -138,8 +138,7 @@ fn crosses(slots: &Slots<Rising>, seat: &mut Seat<Rising>) -> Option<(Left, Left
 fn a_turn_of_two_groups_is_left_in_any_order(rt: HostRuntime) {
     let (slots, mut seat) = two_groups(&rt);
     let left = crosses(&slots, &mut seat);
-    assert!(rt; left == Some((Left::Freed, Left::Freed)));
-    assert!(rt; slots.groups() == 2);
+    assert!(rt; (left, slots.groups()) == (Some((Left::Freed, Left::Freed)), 2));
 }
 
 // What the turns of two seats found, and the number at the end.
@@ -187,8 +186,6 @@ fn hands_over_from_a_thread(rt: &(impl AllocGlobal + Abort + Threads + Sync)) ->
 #[test]
 fn a_seat_finds_what_another_left(rt: HostRuntime) {
     let found = [Some((1, 0)), Some((2, 1)), Some((3, 7))];
-    let (seen, number) = hands_over(&rt);
-    assert!(rt; seen == found && number == Some(7));
-    let (seen, number) = hands_over_from_a_thread(&rt);
-    assert!(rt; seen == found && number == Some(7));
+    assert!(rt; hands_over(&rt) == (found, Some(7)));
+    assert!(rt; hands_over_from_a_thread(&rt) == (found, Some(7)));
 }

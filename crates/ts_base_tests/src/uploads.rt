@@ -8,8 +8,8 @@ fn a_link_in_memory_has_no_upload(rt: HostRuntime) {
     let bytes = b"abc".as_slice();
     let mut client = link(&rt, Plan { bytes, ..PLAIN });
     let mut origin = link(&rt, PLAIN);
-    assert!(rt; origin.upload(&mut client) == Uploaded::Done);
+    let uploaded = origin.upload(&mut client);
+    let got = client.read(&mut [0; 8]);
+    assert!(rt; (uploaded, got) == (Uploaded::Done, Got::Bytes(3)));
     assert!(rt; origin.written().is_empty());
-    let mut room = [0u8; 8];
-    assert!(rt; client.read(&mut room) == Got::Bytes(3));
 }
