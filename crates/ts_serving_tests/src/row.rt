@@ -1,17 +1,16 @@
 //! Rows: a net that is served under a configuration, and what is stated of the run.
 ghost use Rattle.ts_txn.specs.Net.{IsFreshNet};
 
-use crate::command::{Remains, left_by, shelf_of, wide_sink};
+use crate::command::{MEMORY, Remains, left_of, shelf_of, texts_of, wide_sink};
 use crate::stated::{LISTEN, NETWORK, ORIGIN};
 use std::alloc::Global;
 use std::process::Abort;
 use std::sync::Wait;
-use std::test::Fail;
 use std::thread::Threads;
 use ts_link::{Gate, NoMemory, OpenGate};
-use ts_serve_tests::finding::{Finding, judge};
-use ts_serve_tests::net::net_of;
-use ts_serve_tests::visit::Visit;
+use ts_mem_nets::finding::{Finding, judge};
+use ts_mem_nets::net::net_of;
+use ts_mem_nets::visit::Visit;
 use ts_txn::{MemNet, Net};
 
 /// On how many threads each net is served.
@@ -71,18 +70,9 @@ pub fn failing_at<'a>(visits: &'a [Visit<'a>], number: &'a [u64; 1], came: usize
     }
 }
 
-/// What is left where this net is served as a row says, on so many threads, whose handlers pass this gate.
-pub fn left_over<R: Threads + Wait + Sync, N: Net + Drop, G: Gate + Sync>(
-    rt: &R,
-    alloc: Global,
-    threads: &str,
-    row: &Row<'_>,
-    net: N,
-    gate: &G,
-) -> Result<Remains<N>, NoMemory>
-    requires { IsFreshNet (N.seen net) }
-{
-    let words = [
+/// The words that serve a net as a row says, on so many threads.
+pub fn words_of<'a>(row: &Row<'a>, threads: &'a str) -> [&'a str; 11] {
+    [
         "serve",
         "--listen",
         LISTEN,
@@ -94,21 +84,35 @@ pub fn left_over<R: Threads + Wait + Sync, N: Net + Drop, G: Gate + Sync>(
         threads,
         "--connections",
         row.connections,
-    ];
-    let shelf = shelf_of(alloc, row.config)?;
-    left_by(rt, alloc, &words, shelf, net, wide_sink(alloc), gate)
+    ]
+}
+
+/// What is left where this net is served as a row says, on so many threads, whose handlers pass this gate.
+pub fn left_over<R: Abort + AllocGlobal + Threads + Wait + Sync, N: Net + Drop, G: Gate + Sync>(
+    rt: &R,
+    threads: &str,
+    row: &Row<'_>,
+    net: N,
+    gate: &G,
+) -> Remains<N>
+    requires { IsFreshNet (N.seen net) }
+{
+    let alloc = rt.alloc();
+    let words = texts_of(alloc, &words_of(row, threads)).expect(rt, MEMORY);
+    let shelf = shelf_of(alloc, row.config).expect(rt, MEMORY);
+    let out = wide_sink(alloc);
+    left_of(rt, alloc, words.as_slice(), shelf, net, out, gate)
 }
 
 /// What is left where the net of a row is served on so many threads, whose handlers pass this gate.
-pub fn served<R: Threads + Wait + Sync, G: Gate + Sync>(
+pub fn served<R: Abort + AllocGlobal + Threads + Wait + Sync, G: Gate + Sync>(
     rt: &R,
-    alloc: Global,
     threads: &str,
     row: &Row<'_>,
     gate: &G,
-) -> Result<Remains<MemNet>, NoMemory> {
-    let net = net_of(alloc, row.visits, row.again, row.failing)?;
-    left_over(rt, alloc, threads, row, net, gate)
+) -> Remains<MemNet> {
+    let net = net_of(rt.alloc(), row.visits, row.again, row.failing).expect(rt, MEMORY);
+    left_over(rt, threads, row, net, gate)
 }
 
 /// Whether the program ended and said what a row states, with nothing on out and no journal.
@@ -130,43 +134,38 @@ pub fn compare_end<N: Drop>(row: &Row<'_>, left: &Remains<N>) -> Outcome {
 }
 
 /// What comes of a run whose clients this was found of.
-pub fn outcome_of(found: Finding) -> Outcome {
+pub fn outcome_of(found: Result<Finding, NoMemory>) -> Outcome {
     match found {
-        Finding::AsStated => Outcome::AsStated,
-        Finding::Lacks => Outcome::Lacks,
-        other => Outcome::Other(other),
+        Ok(Finding::AsStated) => Outcome::AsStated,
+        Ok(Finding::Lacks) => Outcome::Lacks,
+        Ok(other) => Outcome::Other(other),
+        Err(NoMemory) => Outcome::Lacks,
     }
 }
 
-/// Whether the run left what its row states.
-pub fn compare(alloc: Global, row: &Row<'_>, left: &Remains<MemNet>) -> Result<Outcome, NoMemory> {
+/// What came of a run that left this.
+pub fn compare(alloc: Global, row: &Row<'_>, left: &Remains<MemNet>) -> Outcome {
     let ended = compare_end(row, left);
     if ended != Outcome::AsStated {
-        return Ok(ended);
+        return ended;
     }
-    let found = judge(alloc, row.visits, row.came, left.net.retired())?;
-    Ok(outcome_of(found))
+    outcome_of(judge(alloc, row.visits, row.came, left.net.retired()))
 }
 
-/// Whether a row comes out as stated on so many threads.
-pub fn check_on<R: Threads + Wait + Sync>(
+/// What comes of a row on so many threads.
+pub fn outcome_on<R: Abort + AllocGlobal + Threads + Wait + Sync>(
     rt: &R,
-    alloc: Global,
     threads: &str,
     row: &Row<'_>,
-) -> Result<Outcome, NoMemory> {
-    let left = served(rt, alloc, threads, row, &OpenGate::make())?;
-    compare(alloc, row, &left)
+) -> Outcome {
+    let left = served(rt, threads, row, &OpenGate::make());
+    compare(rt.alloc(), row, &left)
 }
 
 /// A row comes out as stated on each number of threads.
-pub fn check<R: Abort + AllocGlobal + Threads + Wait + Sync>(
-    rt: &R,
-    row: &Row<'_>,
-) -> Result<(), Fail> {
+pub fn check<R: Abort + AllocGlobal + Threads + Wait + Sync>(rt: &R, row: &Row<'_>) {
     for threads in THREADS {
-        let found = check_on(rt, rt.alloc(), threads, row);
-        assert_eq!(rt; found, Ok(Outcome::AsStated), "on {threads} threads");
+        let found = outcome_on(rt, threads, row);
+        assert_eq!(rt; found, Outcome::AsStated, "on {threads} threads");
     }
-    Ok(())
 }

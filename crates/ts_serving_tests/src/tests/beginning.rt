@@ -1,48 +1,43 @@
 //! That a net is begun before anybody is asked for, with the addresses as they stand in the words.
 
-use crate::keeping_net::KeepingNet;
+use crate::command::MEMORY;
 use crate::row::{Outcome, Row, THREADS, all_come, compare_end, left_over, outcome_of};
 use crate::stated::{LISTEN, ORIGIN};
-use std::alloc::Global;
+use std::process::Abort;
 use std::sync::Wait;
-use std::test::Fail;
 use std::thread::Threads;
-use ts_link::{NoMemory, OpenGate};
-use ts_serve_tests::finding::judge;
-use ts_serve_tests::net::net_of;
-use ts_serve_tests::pages::{mixed_visits_of, pages_of};
+use ts_link::OpenGate;
+use ts_mem_nets::finding::judge;
+use ts_mem_nets::keeping_net::KeepingNet;
+use ts_mem_nets::net::net_of;
+use ts_mem_nets::pages::{mixed_visits_of, pages_of};
 
 // What comes of a net, and whether it was begun with the addresses as they are.
-fn begins<R: Threads + Wait + Sync>(
+fn begins<R: Abort + AllocGlobal + Threads + Wait + Sync>(
     rt: &R,
-    alloc: Global,
     threads: &str,
     row: &Row<'_>,
-) -> Result<(Outcome, bool), NoMemory> {
-    let net = KeepingNet::make(alloc, net_of(alloc, row.visits, &[], &[])?, false);
-    let left = left_over(rt, alloc, threads, row, net, &OpenGate::make())?;
+) -> (Outcome, bool) {
+    let alloc = rt.alloc();
+    let inner = net_of(alloc, row.visits, &[], &[]).expect(rt, MEMORY);
+    let net = KeepingNet::make(alloc, inner, false);
+    let left = left_over(rt, threads, row, net, &OpenGate::make());
     let is_begun = left.net.is_begun_with(LISTEN, ORIGIN);
     let ended = compare_end(row, &left);
     if ended != Outcome::AsStated {
-        return Ok((ended, is_begun));
+        return (ended, is_begun);
     }
-    let found = judge(alloc, row.visits, row.came, left.net.retired())?;
-    Ok((outcome_of(found), is_begun))
+    let found = judge(alloc, row.visits, row.came, left.net.retired());
+    (outcome_of(found), is_begun)
 }
 
 #[test]
-fn a_net_is_begun_with_the_addresses_as_they_are(rt: HostRuntime) -> Result<(), Fail> {
-    let alloc = rt.alloc();
-    let pages = pages_of(alloc, 3)?;
-    let visits = mixed_visits_of(alloc, pages.as_slice())?;
+fn a_net_is_begun_with_the_addresses_as_they_are(rt: HostRuntime) {
+    let pages = pages_of(rt.alloc(), 3).expect(&rt, MEMORY);
+    let visits = mixed_visits_of(rt.alloc(), pages.as_slice()).expect(&rt, MEMORY);
     let row = all_come(visits.as_slice());
     for threads in THREADS {
-        let found = begins(&rt, alloc, threads, &row);
-        assert_eq!(rt;
-            found,
-            Ok((Outcome::AsStated, true)),
-            "on {threads} threads"
-        );
+        let found = begins(&rt, threads, &row);
+        assert_eq!(rt; found, (Outcome::AsStated, true), "on {threads} threads");
     }
-    Ok(())
 }

@@ -1,42 +1,26 @@
 //! What single clients get: ones whose origin is not reached, ones that stall, ones that get the front of a
 //! page, and ones that leave at each byte.
 
+use crate::command::MEMORY;
 use crate::row::{Row, all_come, check};
+use crate::visits::{all_leaving, late, late_at};
 use std::alloc::Global;
-use std::test::Fail;
-use ts_hooks::TxnEnd;
 use ts_link::NoMemory;
-use ts_serve_tests::links::{Side, Stalling, staying};
-use ts_serve_tests::stated::{ABC, ABC_TAKEN, CHUNKED, GET};
-use ts_serve_tests::visit::{Visit, page, unreached};
+use ts_mem_nets::links::{Side, Stalling, staying};
+use ts_mem_nets::stated::{ABC, CHUNKED, GET};
+use ts_mem_nets::visit::{Visit, page, unreached};
 
 // A dial that fails gives its client the proxy's own answer.
 #[test]
-fn an_origin_that_is_not_reached_is_answered_for(rt: HostRuntime) -> Result<(), Fail> {
+fn an_origin_that_is_not_reached_is_answered_for(rt: HostRuntime) {
     let visits = [unreached(page()), page(), unreached(page())];
-    check(&rt, &all_come(&visits))
-}
-
-// A client that waits for so many reads once it gave so many bytes of its request.
-fn late_at<'a>(stalls_at: usize, stall: u32) -> Visit<'a> {
-    let client = Side::Stalling(Stalling {
-        stalls_at,
-        stall,
-        ..staying(GET)
-    });
-    Visit { client, ..page() }
+    check(&rt, &all_come(&visits));
 }
 
 // Who waits longer is served later, and nobody waits for it.
 #[test]
-fn clients_that_stall_are_served(rt: HostRuntime) -> Result<(), Fail> {
-    let visits = [
-        late_at(0, 100),
-        late_at(0, 0),
-        late_at(0, 1),
-        late_at(0, 10),
-    ];
-    check(&rt, &all_come(&visits))
+fn clients_that_stall_are_served(rt: HostRuntime) {
+    check(&rt, &all_come(&[late(100), late(0), late(1), late(10)]));
 }
 
 // Clients that wait before each byte, and one that waits behind the last.
@@ -49,28 +33,9 @@ fn all_stalling<'a>(alloc: Global) -> Result<Vec<Visit<'a>>, NoMemory> {
 }
 
 #[test]
-fn clients_stall_at_each_byte(rt: HostRuntime) -> Result<(), Fail> {
-    let visits = all_stalling(rt.alloc())?;
-    check(&rt, &all_come(visits.as_slice()))
-}
-
-// A client that leaves when it took so many bytes of its page.
-fn leaving<'a>(at: usize) -> Visit<'a> {
-    let client = Side::Stalling(Stalling {
-        leave: Some(at as u64),
-        ..staying(GET)
-    });
-    let text: &[u8] = ABC_TAKEN;
-    if at >= text.len() {
-        return Visit { client, ..page() };
-    }
-    let (taken, _) = text.split_at(at);
-    Visit {
-        client,
-        taken,
-        end: TxnEnd::ClientFault,
-        ..page()
-    }
+fn clients_stall_at_each_byte(rt: HostRuntime) {
+    let visits = all_stalling(rt.alloc()).expect(&rt, MEMORY);
+    check(&rt, &all_come(visits.as_slice()));
 }
 
 // The page without its last letter.
@@ -89,7 +54,7 @@ fn first_letters<'a>(origin: Stalling<'a>) -> Visit<'a> {
 // A line lets two letters of a page pass. Its client gets them whole, whether the origin gives the third one,
 // ends before it, or makes its reader wait for it without an end.
 #[test]
-fn clients_get_the_first_letters_of_a_page(rt: HostRuntime) -> Result<(), Fail> {
+fn clients_get_the_first_letters_of_a_page(rt: HostRuntime) {
     let stalling = Stalling {
         stalls_at: CUT.len(),
         stall: u32::MAX,
@@ -104,20 +69,11 @@ fn clients_get_the_first_letters_of_a_page(rt: HostRuntime) -> Result<(), Fail> 
         config: b"limit.so 2\n",
         ..all_come(&visits)
     };
-    check(&rt, &row)
-}
-
-// Clients that leave at each byte, and one that leaves behind the last.
-fn all_leaving<'a>(alloc: Global) -> Result<Vec<Visit<'a>>, NoMemory> {
-    let mut visits = Vec::new(alloc);
-    for at in 0..=ABC_TAKEN.len() {
-        visits.push(leaving(at))?;
-    }
-    Ok(visits)
+    check(&rt, &row);
 }
 
 #[test]
-fn clients_leave_at_each_byte(rt: HostRuntime) -> Result<(), Fail> {
-    let visits = all_leaving(rt.alloc())?;
-    check(&rt, &all_come(visits.as_slice()))
+fn clients_leave_at_each_byte(rt: HostRuntime) {
+    let visits = all_leaving(rt.alloc()).expect(&rt, MEMORY);
+    check(&rt, &all_come(visits.as_slice()));
 }

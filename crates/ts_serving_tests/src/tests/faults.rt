@@ -1,23 +1,17 @@
 //! The table of faults: sinks, files and links that fail or wait by the numbers of their calls, and what each of
 //! them comes to, on one thread and on more.
-ghost use Rattle.std.specs.Prelude.{IfOk};
-ghost use Rattle.ts_txn.specs.MemNet.{seen_of};
-ghost use Rattle.ts_txn.specs.Net.{IsFreshNet};
-
-use crate::command::{Remains, left_by, wide_sink};
+use crate::command::{MEMORY, Remains, left_of, texts_of, wide_sink};
 use crate::row::{Outcome, Row, THREADS, all_come, check, compare, served};
 use crate::stated::LESS;
-use std::alloc::Global;
 use std::process::Abort;
 use std::sync::Wait;
-use std::test::Fail;
 use std::thread::Threads;
 use ts_hooks::TxnEnd;
-use ts_link::{MemLink, MemShelf, MemSink, NoMemory, OpenGate};
-use ts_serve_tests::links::{Counting, Side, steady};
-use ts_serve_tests::net::net_of;
-use ts_serve_tests::stated::{ABC, BAD_GATEWAY, CHUNKED, GET, SIZED};
-use ts_serve_tests::visit::{Visit, page, unreached};
+use ts_link::{MemLink, MemShelf, MemSink, OpenGate};
+use ts_mem_nets::links::{Counting, Side, steady};
+use ts_mem_nets::net::net_of;
+use ts_mem_nets::stated::{ABC, BAD_GATEWAY, CHUNKED, GET, SIZED};
+use ts_mem_nets::visit::{Visit, page, unreached};
 use ts_txn::{MemNet, Retired};
 
 // What a command is to leave: its status, what out takes, and what is said.
@@ -35,18 +29,15 @@ fn is_left(left: &Remains<MemNet>, wanted: &Wanted<'_>) -> bool {
         && left.err.written() == wanted.says
 }
 
-// A net to which nobody comes.
-fn nobody(alloc: Global) -> Result<MemNet, NoMemory>
-    ensures { IfOk result (λ net. IsFreshNet (seen_of net)) }
-{
-    net_of(alloc, &[], &[], &[])
-}
+// The files of a command that puts `XY` behind a body of `abc`.
+const FILES: [(&str, &[u8]); 3] = [
+    ("c", b"append_transform.so tail.txt"),
+    ("tail.txt", b"XY"),
+    ("b", b"abc"),
+];
 
-// Why a run has no outcome.
-const MEMORY: &str = "memory lacks";
-
-// Whether a body of `abc` with `XY` behind it comes to this, where the read and the write of these numbers
-// fail, counted from 1, and out takes one byte a write.
+// Whether that command comes to this, where the read and the write of these numbers fail, counted from 1, and
+// out takes one byte a write.
 fn transforms<R: Abort + AllocGlobal + Threads + Wait + Sync>(
     rt: &R,
     read: u64,
@@ -54,25 +45,26 @@ fn transforms<R: Abort + AllocGlobal + Threads + Wait + Sync>(
     wanted: &Wanted<'_>,
 ) -> bool {
     let alloc = rt.alloc();
+    let words = texts_of(alloc, &["transform", "c", "b"]).expect(rt, MEMORY);
     let failing = vec![in alloc; write].expect(rt, MEMORY);
     let mut shelf = MemShelf::make(alloc);
     for (name, text) in FILES {
         shelf.add(name, text).expect(rt, MEMORY);
     }
     shelf.fail_at(read).expect(rt, MEMORY);
-    let net = nobody(alloc).expect(rt, MEMORY);
+    let nobody = net_of(alloc, &[], &[], &[]).expect(rt, MEMORY);
     let out = MemSink::make(alloc, 1, failing);
-    let words = ["transform", "c", "b"];
-    let left = left_by(rt, alloc, &words, shelf, net, out, &OpenGate::make()).expect(rt, MEMORY);
+    let left = left_of(
+        rt,
+        alloc,
+        words.as_slice(),
+        shelf,
+        nobody,
+        out,
+        &OpenGate::make(),
+    );
     is_left(&left, wanted)
 }
-
-// The files of that command.
-const FILES: [(&str, &[u8]); 3] = [
-    ("c", b"append_transform.so tail.txt"),
-    ("tail.txt", b"XY"),
-    ("b", b"abc"),
-];
 
 // Clients that are served with a line that acts.
 fn through_a_line<'a>(visits: &'a [Visit<'a>]) -> Row<'a> {
@@ -94,15 +86,14 @@ fn waits_of(retired: &[Retired<MemLink, MemLink>]) -> (u64, u64) {
 }
 
 // What comes of a net of one client, and how often that and its origin waited.
-fn come_of_waits<R: Threads + Wait + Sync>(
+fn come_of_waits<R: Abort + AllocGlobal + Threads + Wait + Sync>(
     rt: &R,
-    alloc: Global,
     threads: &str,
     row: &Row<'_>,
-) -> Result<(Outcome, u64, u64), NoMemory> {
-    let left = served(rt, alloc, threads, row, &OpenGate::make())?;
+) -> (Outcome, u64, u64) {
+    let left = served(rt, threads, row, &OpenGate::make());
     let (client, origin) = waits_of(left.net.retired());
-    Ok((compare(alloc, row, &left)?, client, origin))
+    (compare(rt.alloc(), row, &left), client, origin)
 }
 
 // The client of a page and its origin come out as it is stated, having waited so often each.
@@ -111,18 +102,17 @@ fn waits<R: Abort + AllocGlobal + Threads + Wait + Sync>(
     visit: Visit<'_>,
     client: u64,
     origin: u64,
-) -> Result<(), Fail> {
+) {
     let visits = [visit];
     let row = all_come(&visits);
     for threads in THREADS {
-        let found = come_of_waits(rt, rt.alloc(), threads, &row);
-        assert_eq!(rt; found, Ok((Outcome::AsStated, client, origin)));
+        let found = come_of_waits(rt, threads, &row);
+        assert_eq!(rt; found, (Outcome::AsStated, client, origin));
     }
-    Ok(())
 }
 
 #[test]
-fn a_sink_that_fails_at_each_write(rt: HostRuntime) -> Result<(), Fail> {
+fn a_sink_that_fails_at_each_write(rt: HostRuntime) {
     let text: &[u8] = b"abcXY";
     for written in 0..text.len() {
         let (out, _) = text.split_at(written);
@@ -139,11 +129,10 @@ fn a_sink_that_fails_at_each_write(rt: HostRuntime) -> Result<(), Fail> {
         says: b"",
     };
     assert!(rt; transforms(&rt, 0, 6, &whole));
-    Ok(())
 }
 
 #[test]
-fn a_file_that_fails_at_each_read(rt: HostRuntime) -> Result<(), Fail> {
+fn a_file_that_fails_at_each_read(rt: HostRuntime) {
     let lines: [&[u8]; 3] = [
         b"tsx: cannot read c\n",
         b"tsx: cannot read tail.txt\n",
@@ -157,15 +146,11 @@ fn a_file_that_fails_at_each_read(rt: HostRuntime) -> Result<(), Fail> {
         };
         assert!(rt; transforms(&rt, place as u64 + 1, 0, &wanted));
     }
-    Ok(())
 }
 
 // The write of this number to the first client fails: it took what the writes before brought, and the second
 // one is served whole.
-fn fails_at_a_write<R: Abort + AllocGlobal + Threads + Wait + Sync>(
-    rt: &R,
-    write: u64,
-) -> Result<(), Fail> {
+fn fails_at_a_write<R: Abort + AllocGlobal + Threads + Wait + Sync>(rt: &R, write: u64) {
     let numbers = [write];
     let brought = (write as usize).saturating_sub(1).saturating_mul(10);
     let (taken, _) = CHUNKED.split_at(brought.min(CHUNKED.len()));
@@ -184,20 +169,19 @@ fn fails_at_a_write<R: Abort + AllocGlobal + Threads + Wait + Sync>(
         chunks: Some(b"<abc"),
         ..page()
     };
-    check(rt, &through_a_line(&[failing, whole]))
+    check(rt, &through_a_line(&[failing, whole]));
 }
 
 #[test]
-fn a_client_whose_write_fails(rt: HostRuntime) -> Result<(), Fail> {
+fn a_client_whose_write_fails(rt: HostRuntime) {
     for write in 1..=8 {
-        fails_at_a_write(&rt, write)?;
+        fails_at_a_write(&rt, write);
     }
-    Ok(())
 }
 
 // Its head came whole, and nothing of its body.
 #[test]
-fn an_origin_whose_second_read_fails(rt: HostRuntime) -> Result<(), Fail> {
+fn an_origin_whose_second_read_fails(rt: HostRuntime) {
     let failing = Side::Counting(Counting {
         cuts: &[38],
         failing_reads: &[2],
@@ -209,11 +193,11 @@ fn an_origin_whose_second_read_fails(rt: HostRuntime) -> Result<(), Fail> {
         end: TxnEnd::OriginFault,
         ..page()
     };
-    check(&rt, &all_come(&[visit, page()]))
+    check(&rt, &all_come(&[visit, page()]));
 }
 
 #[test]
-fn an_origin_whose_first_read_fails(rt: HostRuntime) -> Result<(), Fail> {
+fn an_origin_whose_first_read_fails(rt: HostRuntime) {
     assert_eq!(rt; BAD_GATEWAY.len(), 109);
     let failing = Side::Counting(Counting {
         failing_reads: &[1],
@@ -225,21 +209,21 @@ fn an_origin_whose_first_read_fails(rt: HostRuntime) -> Result<(), Fail> {
         end: TxnEnd::OriginFault,
         ..page()
     };
-    check(&rt, &all_come(&[visit, page()]))
+    check(&rt, &all_come(&[visit, page()]));
 }
 
 #[test]
-fn an_origin_that_is_not_reached(rt: HostRuntime) -> Result<(), Fail> {
-    check(&rt, &all_come(&[unreached(page()), page()]))
+fn an_origin_that_is_not_reached(rt: HostRuntime) {
+    check(&rt, &all_come(&[unreached(page()), page()]));
 }
 
 #[test]
-fn a_client_that_waits_at_its_first_two_writes(rt: HostRuntime) -> Result<(), Fail> {
+fn a_client_that_waits_at_its_first_two_writes(rt: HostRuntime) {
     let client = Side::Counting(Counting {
         waiting_writes: &[1, 2],
         ..steady(GET)
     });
-    waits(&rt, Visit { client, ..page() }, 2, 0)
+    waits(&rt, Visit { client, ..page() }, 2, 0);
 }
 
 // Every second call up to the fortieth.
@@ -263,11 +247,11 @@ fn halting(gives: &[u8]) -> Side<'_> {
 
 // Each of the two makes more than forty reads and more than forty writes.
 #[test]
-fn links_that_wait_at_every_second_call(rt: HostRuntime) -> Result<(), Fail> {
+fn links_that_wait_at_every_second_call(rt: HostRuntime) {
     let visit = Visit {
         client: halting(GET),
         origin: Some(halting(ABC)),
         ..page()
     };
-    waits(&rt, visit, 40, 40)
+    waits(&rt, visit, 40, 40);
 }

@@ -1,11 +1,9 @@
 //! Nets that are served with hook plugins beside the places.
 
-use crate::ends::check_all;
-use crate::links::at_once;
-use crate::row::{Row, all_come};
-use crate::stated::FORBIDDEN;
-use crate::visit::{Visit, page};
-use std::test::Fail;
+use crate::server::row::{Row, all_come, check};
+use ts_mem_nets::links::at_once;
+use ts_mem_nets::stated::FORBIDDEN;
+use ts_mem_nets::visit::{Visit, page};
 
 // A request for a host that is not denied, and what the origin gets of it.
 const OTHER: &[u8] = b"GET / HTTP/1.1\r\nHost: b\r\n\r\n";
@@ -15,7 +13,7 @@ const OTHER_SENT: &[u8] =
 
 // Each transaction asks the deny list, and that of a host that is not denied the rule behind it.
 #[test]
-fn transactions_ask_the_plugins_beside_them(rt: HostRuntime) -> Result<(), Fail> {
+fn transactions_ask_the_plugins_beside_them(rt: HostRuntime) {
     let denied = Visit {
         sent: b"",
         taken: FORBIDDEN,
@@ -31,5 +29,5 @@ fn transactions_ask_the_plugins_beside_them(rt: HostRuntime) -> Result<(), Fail>
         lines: b"denylist.so a\nheader.so request set x-a 1\n",
         ..all_come(&visits)
     };
-    check_all(&rt, &row)
+    check(&rt, &row);
 }

@@ -2,8 +2,8 @@
 use Rattle.std.specs.Prelude.{◌≡◌, ℕ, List, IsSomeAnd}
 use Rattle.std.specs.String.{string_bytes}
 use Rattle.ts_link.specs.MemLink.{LinkState}
-use Rattle.ts_serving_tests.specs.declared.keeping_net.Addresses.{Addresses}
-use Rattle.ts_serving_tests.specs.declared.keeping_net.KeepingNet.{KeepingNet}
+use Rattle.ts_mem_nets.specs.declared.keeping_net.Addresses.{Addresses}
+use Rattle.ts_mem_nets.specs.declared.keeping_net.KeepingNet.{KeepingNet}
 use Rattle.ts_txn.specs.MemNet.{NetState, seen_of}
 use Rattle.ts_txn.specs.Net.{NetSeen}
 use Rattle.ts_txn.specs.declared.net.Began.{Began}

@@ -1,7 +1,7 @@
 //! A net in memory that keeps the texts with which it is begun, fails where it is asked for a client before
 //! that, and may lack memory for what it is handed first.
 ghost use Rattle.std.specs.Prelude.{◌≡◌, true, IfOk, OnOk, OnErr};
-ghost use Rattle.ts_serving_tests.specs.Keeping.{AreTexts, KeepsTexts, seen_with};
+ghost use Rattle.ts_mem_nets.specs.Keeping.{AreTexts, KeepsTexts, seen_with};
 ghost use Rattle.ts_txn.specs.MemNet.{seen_of};
 ghost use Rattle.ts_txn.specs.Net.{IsFreshNet, IsHanded, IsNoted};
 

@@ -1,0 +1,9 @@
+//! Nets that are served without the program around: what each client gets, how its transaction ends, and why
+//! serving ends.
+
+mod crowds;
+mod ends;
+mod leaving;
+mod memory;
+mod plugins;
+mod row;
