@@ -62,7 +62,11 @@ pub fn shelf_with<R: Abort + AllocGlobal>(rt: &R, files: &[(&str, &[u8])]) -> Me
 }
 
 /// A shelf with a configuration `c`, a recording `r` and a file `f` with a line of HTML.
-pub fn shelf_of<R: Abort + AllocGlobal>(rt: &R, config: &[u8], recording: &[u8]) -> MemShelf {
+pub fn shelf_of<'a, R: Abort + AllocGlobal>(
+    rt: &R,
+    config: &'a [u8],
+    recording: &'a [u8],
+) -> MemShelf {
     shelf_with(rt, &[("c", config), ("f", b"<hr>"), ("r", recording)])
 }
 

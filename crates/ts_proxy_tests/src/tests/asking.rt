@@ -1,7 +1,7 @@
 //! How hook plugins are asked: once at their hooks, and again where they were missed; and the journals of
 //! their groups.
 
-use crate::command::{ON_1, ON_2, ON_8, replayed};
+use crate::command::{MEMORY, ON_1, ON_2, ON_8, replayed};
 use crate::comparison::{Comparison, compare, done};
 use crate::moments::{handled_in, waits_of};
 use crate::recording::{at_once, recording_of};
@@ -10,7 +10,6 @@ use crate::stated::{ABC, GET, HOSTLESS, SIZED};
 use std::alloc::Global;
 use std::process::Abort;
 use std::sync::Wait;
-use std::test::Fail;
 use std::thread::Threads;
 use ts_journal::Journal;
 use ts_link::NoMemory;
@@ -42,7 +41,7 @@ fn questions_of<R: Abort + AllocGlobal + Threads + Wait + Sync>(
 // that cannot be read too, the deny list of those that can be read, and the rule of requests of the one that
 // was passed on. For a client that gives nothing nobody is asked.
 #[test]
-fn journals_of_plugins(rt: HostRuntime) -> Result<(), Fail> {
+fn journals_of_plugins(rt: HostRuntime) {
     let config = b"header.so response remove x\ndenylist.so b\nheader.so request remove x";
     let exchanges = [
         at_once(GET, ABC),
@@ -50,12 +49,11 @@ fn journals_of_plugins(rt: HostRuntime) -> Result<(), Fail> {
         at_once(HOSTLESS, ABC),
         at_once(b"", ABC),
     ];
-    let recording = recording_of(rt.alloc(), &exchanges)?;
+    let recording = recording_of(rt.alloc(), &exchanges).expect(&rt, MEMORY);
     for words in [ON_1, ON_2, ON_8] {
         let questions = questions_of(&rt, words, config, recording.as_slice());
         assert_eq!(rt; questions, [3, 2, 1], "at {words:?}");
     }
-    Ok(())
 }
 
 // What came of transactions that all ask one plugin.
@@ -183,6 +181,9 @@ fn is_counted(busy: &Tally, calm: &Tally) -> bool {
         && (busy.waits == more || !is_stored)
 }
 
+// Why a crowd has no tally.
+const UNLIKE: &str = "it left another report";
+
 // How often as many transactions as there may be are run, until one of them misses its plugin.
 const MOST_RUNS: usize = 20;
 
@@ -191,21 +192,19 @@ const MOST_RUNS: usize = 20;
 // plugin answers each transaction once, and the report is the same. That a miss is seen takes two processors
 // at least: on one of them a thread hardly ever stops within a turn.
 #[test]
-fn a_plugin_that_is_missed(rt: HostRuntime) -> Result<(), Fail> {
-    let crowd = make_crowd(rt.alloc())?;
-    let Some(calm) = came_of(&rt, ON_1, &crowd) else {
-        return Err("it leaves its report on one thread")?;
-    };
-    assert_eq!(rt; calm.waits, 0);
-    assert!(rt; came_of(&rt, ON_2, &crowd).is_some());
+fn a_plugin_that_is_missed(rt: HostRuntime) {
+    let crowd = make_crowd(rt.alloc()).expect(&rt, MEMORY);
+    let calm = came_of(&rt, ON_1, &crowd).expect(&rt, UNLIKE);
+    let two = came_of(&rt, ON_2, &crowd).expect(&rt, UNLIKE);
+    assert_eq!(rt; (calm.waits, two.txns), (0, MOST_TXNS));
+    let mut missed = false;
     for _ in 0..MOST_RUNS {
-        let Some(busy) = came_of(&rt, ON_8, &crowd) else {
-            return Err("it leaves its report on eight threads")?;
-        };
+        let busy = came_of(&rt, ON_8, &crowd).expect(&rt, UNLIKE);
         assert!(rt; is_counted(&busy, &calm));
         if busy.handled > calm.handled {
-            return Ok(());
+            missed = true;
+            break;
         }
     }
-    Err("the plugin was missed")?
+    assert!(rt; missed, "no plugin was missed");
 }

@@ -8,7 +8,6 @@ use crate::row::compared;
 use crate::stated::{ABC, APPEND, GET, LESS, in_chunks};
 use std::process::Abort;
 use std::sync::Wait;
-use std::test::Fail;
 use std::thread::Threads;
 use ts_link::{MemShelf, OpenGate};
 
@@ -25,8 +24,8 @@ fn ended<R: Abort + AllocGlobal + Threads + Wait + Sync>(
 }
 
 #[test]
-fn files_that_are_too_long(rt: HostRuntime) -> Result<(), Fail> {
-    let text = vec![in rt.alloc(); b'#'; 1_048_577]?;
+fn files_that_are_too_long(rt: HostRuntime) {
+    let text = vec![in rt.alloc(); b'#'; 1_048_577].expect(&rt, MEMORY);
     let text = text.as_slice();
     let config = ended(
         &rt,
@@ -40,7 +39,6 @@ fn files_that_are_too_long(rt: HostRuntime) -> Result<(), Fail> {
         (config, file),
         (Comparison::AsStated, Comparison::AsStated)
     );
-    Ok(())
 }
 
 // A shelf whose read of this number fails, counted from 1.
@@ -52,8 +50,8 @@ fn failing_shelf<R: Abort + AllocGlobal>(rt: &R, recording: &[u8], read: u64) ->
 
 // A read that fails is told by the name of its file.
 #[test]
-fn reads_that_fail(rt: HostRuntime) -> Result<(), Fail> {
-    let recording = recording_of(rt.alloc(), &[at_once(GET, ABC)])?;
+fn reads_that_fail(rt: HostRuntime) {
+    let recording = recording_of(rt.alloc(), &[at_once(GET, ABC)]).expect(&rt, MEMORY);
     let lines: [&[u8]; 3] = [
         b"tsx: cannot read c\n",
         b"tsx: cannot read f\n",
@@ -67,7 +65,6 @@ fn reads_that_fail(rt: HostRuntime) -> Result<(), Fail> {
             "read {place}"
         );
     }
-    Ok(())
 }
 
 // How many bytes are written before the write of this number fails, if all is as stated and they are a
@@ -94,14 +91,13 @@ fn written_before<R: Abort + AllocGlobal + Threads + Wait + Sync>(
 
 // What is written before a write that fails is a front of the report.
 #[test]
-fn writes_that_fail(rt: HostRuntime) -> Result<(), Fail> {
-    let recording = recording_of(rt.alloc(), &[at_once(GET, ABC)])?;
-    let report = report_of(rt.alloc(), &[in_chunks(b"<abc")])?;
+fn writes_that_fail(rt: HostRuntime) {
+    let recording = recording_of(rt.alloc(), &[at_once(GET, ABC)]).expect(&rt, MEMORY);
+    let report = report_of(rt.alloc(), &[in_chunks(b"<abc")]).expect(&rt, MEMORY);
     for call in 1..22 {
         let found = written_before(&rt, recording.as_slice(), call as u64, report.as_slice());
         assert_eq!(rt; found, Some(10 * call - 10), "call {call}");
     }
-    Ok(())
 }
 
 // A recording of each version.
@@ -125,7 +121,7 @@ fn stops<R: Abort + AllocGlobal + Threads + Wait + Sync>(
 }
 
 #[test]
-fn fronts_of_recordings(rt: HostRuntime) -> Result<(), Fail> {
+fn fronts_of_recordings(rt: HostRuntime) {
     for whole in WHOLE {
         for length in 0..whole.len() {
             let found = stops(&rt, whole.split_at(length).0);
@@ -133,5 +129,4 @@ fn fronts_of_recordings(rt: HostRuntime) -> Result<(), Fail> {
             assert_eq!(rt; found, both, "front {length}");
         }
     }
-    Ok(())
 }

@@ -12,7 +12,6 @@ use crate::stated::{ABC, GET, LESS, in_chunks};
 use std::alloc::Global;
 use std::process::Abort;
 use std::sync::Wait;
-use std::test::Fail;
 use std::thread::Threads;
 use ts_link::{NoMemory, OpenGate};
 
@@ -51,26 +50,24 @@ fn response_of(alloc: Global, body: &[u8]) -> Result<Vec<u8>, NoMemory> {
 
 // As many transactions as there may be, each with a body, on 1, 4 and 64 threads.
 #[test]
-fn most_transactions(rt: HostRuntime) -> Result<(), Fail> {
-    let exchanges = vec![in rt.alloc(); at_once(GET, ABC); MOST_TXNS]?;
-    let stated = vec![in rt.alloc(); in_chunks(b"<abc"); MOST_TXNS]?;
+fn most_transactions(rt: HostRuntime) {
+    let exchanges = vec![in rt.alloc(); at_once(GET, ABC); MOST_TXNS].expect(&rt, MEMORY);
+    let stated = vec![in rt.alloc(); in_chunks(b"<abc"); MOST_TXNS].expect(&rt, MEMORY);
     for words in [ON_1, ON_4, ON_64] {
         let found = check_with(&rt, words, LESS, 0, exchanges.as_slice(), stated.as_slice());
         assert_eq!(rt; found, Comparison::AsStated, "at {words:?}");
     }
-    Ok(())
 }
 
 // Of as many transactions as there may be, none of which waits for its sides, 4 threads miss none: an
 // event of a group that a thread had missed would be handled 10 ms later.
 #[test]
-fn no_transaction_is_missed(rt: HostRuntime) -> Result<(), Fail> {
-    let exchanges = vec![in rt.alloc(); at_once(GET, ABC); MOST_TXNS]?;
-    let recording = recording_of(rt.alloc(), exchanges.as_slice())?;
+fn no_transaction_is_missed(rt: HostRuntime) {
+    let exchanges = vec![in rt.alloc(); at_once(GET, ABC); MOST_TXNS].expect(&rt, MEMORY);
+    let recording = recording_of(rt.alloc(), exchanges.as_slice()).expect(&rt, MEMORY);
     let left = replayed(&rt, ON_4, LESS, recording.as_slice());
     let late = late_events(left.journals.as_slice());
     assert_eq!(rt; (left.status, left.journals.len(), late), (0, MOST_TXNS, 0));
-    Ok(())
 }
 
 // As many lines as there may be, which pass a body on.
@@ -93,13 +90,12 @@ fn pass_on<R: Abort + AllocGlobal + Threads + Wait + Sync>(
 // A body of 1 MiB, in pieces as large as they may be and in smaller ones, through as many lines as there may
 // be.
 #[test]
-fn a_large_body(rt: HostRuntime) -> Result<(), Fail> {
-    let body = letters(rt.alloc(), MIB)?;
+fn a_large_body(rt: HostRuntime) {
+    let body = letters(rt.alloc(), MIB).expect(&rt, MEMORY);
     for piece in [MOST_PIECE, 1_000] {
         let found = pass_on(&rt, body.as_slice(), piece);
         assert_eq!(rt; found, Comparison::AsStated, "pieces of {piece}");
     }
-    Ok(())
 }
 
 // What is left of five transactions with this body, where the second write into out fails.
@@ -120,9 +116,9 @@ fn left_of_five<R: Abort + AllocGlobal + Threads + Wait + Sync>(rt: &R, body: &[
 // A report goes out whenever 64 KiB of it are there. The lines on three of these bodies come to more:
 // where the next write fails, they stand on out, and no other.
 #[test]
-fn a_report_in_two_writes(rt: HostRuntime) -> Result<(), Fail> {
-    let body = letters(rt.alloc(), 30_000)?;
-    let three = report_of(rt.alloc(), &[in_chunks(body.as_slice()); 3])?;
+fn a_report_in_two_writes(rt: HostRuntime) {
+    let body = letters(rt.alloc(), 30_000).expect(&rt, MEMORY);
+    let three = report_of(rt.alloc(), &[in_chunks(body.as_slice()); 3]).expect(&rt, MEMORY);
     let left = left_of_five(&rt, body.as_slice());
     let front = left.out.written();
     let wanted = Wanted {
@@ -132,7 +128,6 @@ fn a_report_in_two_writes(rt: HostRuntime) -> Result<(), Fail> {
     let seen = (compare(&left, &wanted), front.len() + DONE.len());
     assert_eq!(rt; seen, (Comparison::AsStated, three.len()));
     assert!(rt; three.as_slice().starts_with(front));
-    Ok(())
 }
 
 // Bodies that fill a recording to its last byte: so many equal ones, and a last one.
@@ -179,25 +174,23 @@ fn filled_report(alloc: Global, body: &[u8], last: &[u8]) -> Result<Vec<u8>, NoM
 
 // As many bytes as there may be.
 #[test]
-fn most_bytes(rt: HostRuntime) -> Result<(), Fail> {
+fn most_bytes(rt: HostRuntime) {
     let alloc = rt.alloc();
-    let body = letters(alloc, EQUAL_BODY)?;
-    let last = letters(alloc, LAST_BODY)?;
-    let report = filled_report(alloc, body.as_slice(), last.as_slice())?;
+    let body = letters(alloc, EQUAL_BODY).expect(&rt, MEMORY);
+    let last = letters(alloc, LAST_BODY).expect(&rt, MEMORY);
+    let report = filled_report(alloc, body.as_slice(), last.as_slice()).expect(&rt, MEMORY);
     let left = filled(&rt, body.as_slice(), last.as_slice());
     let wanted = done(report.as_slice(), EQUAL + 1);
     assert_eq!(rt; compare(&left, &wanted), Comparison::AsStated);
-    Ok(())
 }
 
 // One byte more is refused by the length of its file.
 #[test]
-fn one_byte_too_many(rt: HostRuntime) -> Result<(), Fail> {
+fn one_byte_too_many(rt: HostRuntime) {
     let alloc = rt.alloc();
-    let body = letters(alloc, EQUAL_BODY)?;
-    let last = letters(alloc, LAST_BODY + 1)?;
+    let body = letters(alloc, EQUAL_BODY).expect(&rt, MEMORY);
+    let last = letters(alloc, LAST_BODY + 1).expect(&rt, MEMORY);
     let left = filled(&rt, body.as_slice(), last.as_slice());
     let wanted = stopped(9, b"tsx: too long: r\n");
     assert_eq!(rt; compare(&left, &wanted), Comparison::AsStated);
-    Ok(())
 }

@@ -13,7 +13,6 @@ use crate::stated::{
 };
 use std::process::Abort;
 use std::sync::Wait;
-use std::test::Fail;
 use std::thread::Threads;
 use ts_link::MeetGate;
 
@@ -54,12 +53,11 @@ fn of_mixed() -> [Stated<'static>; 8] {
 
 // Of fifty runs each writes the same.
 #[test]
-fn fifty_runs(rt: HostRuntime) -> Result<(), Fail> {
+fn fifty_runs(rt: HostRuntime) {
     for run in 0..50 {
         let found = check_with(&rt, ON_4, ASKING, 4, &mixed(), &of_mixed());
         assert_eq!(rt; found, Comparison::AsStated, "run {run}");
     }
-    Ok(())
 }
 
 // What two equal transactions leave on two threads, whose handlers pass this gate.
@@ -73,8 +71,10 @@ fn two_left_by<R: Abort + AllocGlobal + Threads + Wait + Sync>(rt: &R, gate: &Me
 // Two equal transactions, each of which waits in its first handler for the other: the first events of the two
 // were handled under different seats.
 #[test]
-fn two_transactions_run_beside_each_other(rt: HostRuntime) -> Result<(), Fail> {
-    let report = report_of(rt.alloc(), &[in_chunks(b"<abc"), in_chunks(b"<abc")])?;
+fn two_transactions_run_beside_each_other(rt: HostRuntime) {
+    let report = report_of(rt.alloc(), &[in_chunks(b"<abc"), in_chunks(b"<abc")]).expect(
+        &rt, MEMORY,
+    );
     let gate = MeetGate::make(20_000_000);
     let left = two_left_by(&rt, &gate);
     let found = compare(&left, &done(report.as_slice(), 2));
@@ -84,7 +84,6 @@ fn two_transactions_run_beside_each_other(rt: HostRuntime) -> Result<(), Fail> {
         are_of_two_seats(left.journals.as_slice()),
     );
     assert_eq!(rt; seen, (true, Comparison::AsStated, true));
-    Ok(())
 }
 
 // Whether a recording leaves three journals, the second of which has handled many events, and the others few.
@@ -104,13 +103,12 @@ fn stands_between<R: Abort + AllocGlobal + Threads + Wait + Sync>(
 // The journal of a transaction that passes many pieces on stands between those of two that do next to
 // nothing.
 #[test]
-fn journals_stand_in_the_order_of_their_transactions(rt: HostRuntime) -> Result<(), Fail> {
+fn journals_stand_in_the_order_of_their_transactions(rt: HostRuntime) {
     let drips = in_pieces(at_once(USUAL, PAGE), 1);
     let exchanges = [at_once(b"", b""), drips, at_once(b"", b"")];
-    let recording = recording_of(rt.alloc(), &exchanges)?;
+    let recording = recording_of(rt.alloc(), &exchanges).expect(&rt, MEMORY);
     for words in [ON_1, ON_4] {
         let found = stands_between(&rt, words, recording.as_slice());
         assert!(rt; found, "at {words:?}");
     }
-    Ok(())
 }

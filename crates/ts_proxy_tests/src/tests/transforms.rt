@@ -6,7 +6,6 @@ use crate::command::{
 use crate::comparison::{Comparison, Wanted, compare, done, stopped};
 use std::process::Abort;
 use std::sync::Wait;
-use std::test::Fail;
 use std::thread::Threads;
 use ts_link::OpenGate;
 
@@ -44,7 +43,7 @@ fn ended<R: Abort + AllocGlobal + Threads + Wait + Sync>(
 
 // One byte a call, a write that fails, and a line that is not said.
 #[test]
-fn causes(rt: HostRuntime) -> Result<(), Fail> {
+fn causes(rt: HostRuntime) {
     let slow = Trouble { take: 1, ..NONE };
     let unwritten = Trouble { failing: 1, ..NONE };
     let untold = Trouble {
@@ -59,7 +58,6 @@ fn causes(rt: HostRuntime) -> Result<(), Fail> {
     );
     let as_stated = Comparison::AsStated;
     assert_eq!(rt; found, (as_stated, as_stated, as_stated));
-    Ok(())
 }
 
 // What `transform` leaves of these files is what is wanted.
@@ -74,28 +72,32 @@ fn leaves<R: Abort + AllocGlobal + Threads + Wait + Sync>(
 }
 
 #[test]
-fn a_configuration_that_is_too_long(rt: HostRuntime) -> Result<(), Fail> {
-    let long = vec![in rt.alloc(); b'#'; 1_048_577]?;
+fn a_configuration_that_is_too_long(rt: HostRuntime) {
+    let long = vec![in rt.alloc(); b'#'; 1_048_577].expect(&rt, MEMORY);
     let files = [("c", long.as_slice()), ("b", b"")];
     let found = leaves(&rt, &files, &stopped(9, b"tsx: too long: c\n"));
     assert_eq!(rt; found, Comparison::AsStated);
-    Ok(())
 }
 
-// What so many lines that pass a body on leave of a body, of which out takes so many bytes a call.
-fn left_of_nulls<R: Abort + AllocGlobal + Threads + Wait + Sync>(
-    rt: &R,
-    lines: usize,
-    body: &[u8],
-    take: usize,
-) -> Remains {
+// So many lines that pass a body on.
+fn nulls<R: Abort + AllocGlobal>(rt: &R, lines: usize) -> Vec<u8> {
     let mut config: Vec<u8> = Vec::new(rt.alloc());
     for _ in 0..lines {
         config
             .extend_from_slice(b"null_transform.so\n")
             .expect(rt, MEMORY);
     }
-    let shelf = shelf_with(rt, &[("c", config.as_slice()), ("b", body)]);
+    config
+}
+
+// What these lines leave of a body, of which out takes so many bytes a call.
+fn left_of<'a, R: Abort + AllocGlobal + Threads + Wait + Sync>(
+    rt: &R,
+    lines: &'a [u8],
+    body: &'a [u8],
+    take: usize,
+) -> Remains {
+    let shelf = shelf_with(rt, &[("c", lines), ("b", body)]);
     let out = failing_sink(rt, take, 0);
     left_by(rt, TRANSFORM, shelf, out, &OpenGate::make())
 }
@@ -113,19 +115,19 @@ fn passed_on<R: Abort + AllocGlobal + Threads + Wait + Sync>(
     bytes: usize,
     take: usize,
 ) -> (Comparison, Option<(u64, u64)>) {
+    let config = nulls(rt, lines);
     let body = vec![in rt.alloc(); b'x'; bytes].expect(rt, MEMORY);
-    let left = left_of_nulls(rt, lines, body.as_slice(), take);
+    let left = left_of(rt, config.as_slice(), body.as_slice(), take);
     (compare(&left, &done(body.as_slice(), 1)), counts_of(&left))
 }
 
 // Of two stages and 40,000 bytes the driver begins, then each stage moves two pieces and ends, and in the
 // last turn the first stage is told too that its output was written.
 #[test]
-fn long_bodies(rt: HostRuntime) -> Result<(), Fail> {
+fn long_bodies(rt: HostRuntime) {
     for (lines, bytes, take) in [(1, 65_537, 1), (16, 1_048_576, 65_536), (2, 40_000, 65_536)] {
         let (comparison, counts) = passed_on(&rt, lines, bytes, take);
         assert_eq!(rt; comparison, Comparison::AsStated, "{lines} lines");
         assert!(rt; lines != 2 || counts == Some((7, 7)));
     }
-    Ok(())
 }
