@@ -3,7 +3,6 @@
 
 use crate::answers::Inquiry;
 use crate::rows::check_rows;
-use std::test::Fail;
 use ts_wire::Framing;
 
 // A refusal is right wherever the RFC allows one. Where it is narrower than the RFC, the line says so.
@@ -93,9 +92,9 @@ GET / HTTP/1.1\nHost: a\nX: 1\n\n => GET / HTTP/1.1\r\nhost: a\r\nx: 1\r\nvia: 1
 ";
 
 #[test]
-fn takes_requests_in_one_way(rt: HostRuntime) -> Result<(), Fail> {
-    check_rows(&rt, rt.alloc(), Inquiry::Check, REQUESTS)?;
-    check_rows(&rt, rt.alloc(), Inquiry::Sent, SENT)
+fn takes_requests_in_one_way(rt: HostRuntime) {
+    check_rows(&rt, Inquiry::Check, REQUESTS);
+    check_rows(&rt, Inquiry::Sent, SENT);
 }
 
 const RESPONSES: &str = r"
@@ -187,7 +186,7 @@ ffffffffffffffff\r\nabc => bad
 ";
 
 #[test]
-fn takes_responses_in_one_way(rt: HostRuntime) -> Result<(), Fail> {
-    check_rows(&rt, rt.alloc(), Inquiry::Ends(false), RESPONSES)?;
-    check_rows(&rt, rt.alloc(), Inquiry::Body(Framing::Chunked), CHUNKED)
+fn takes_responses_in_one_way(rt: HostRuntime) {
+    check_rows(&rt, Inquiry::Ends(false), RESPONSES);
+    check_rows(&rt, Inquiry::Body(Framing::Chunked), CHUNKED);
 }

@@ -2,7 +2,6 @@
 
 use crate::answers::Inquiry;
 use crate::rows::{check_bytes, check_rows, filled, with_lines};
-use std::test::Fail;
 use ts_wire::Framing;
 
 const NOTHING: &str = r"
@@ -42,13 +41,12 @@ x\r\n => bad
 ";
 
 #[test]
-fn reads_bodies(rt: HostRuntime) -> Result<(), Fail> {
-    let alloc = rt.alloc();
-    check_rows(&rt, alloc, Inquiry::Body(Framing::Nothing), NOTHING)?;
-    check_rows(&rt, alloc, Inquiry::Body(Framing::Sized(0)), NOTHING)?;
-    check_rows(&rt, alloc, Inquiry::Body(Framing::Sized(3)), SIZED)?;
-    check_rows(&rt, alloc, Inquiry::Body(Framing::UntilClose), UNTIL_CLOSE)?;
-    check_rows(&rt, alloc, Inquiry::Body(Framing::Chunked), CHUNKED)
+fn reads_bodies(rt: HostRuntime) {
+    check_rows(&rt, Inquiry::Body(Framing::Nothing), NOTHING);
+    check_rows(&rt, Inquiry::Body(Framing::Sized(0)), NOTHING);
+    check_rows(&rt, Inquiry::Body(Framing::Sized(3)), SIZED);
+    check_rows(&rt, Inquiry::Body(Framing::UntilClose), UNTIL_CLOSE);
+    check_rows(&rt, Inquiry::Body(Framing::Chunked), CHUNKED);
 }
 
 const LINE_LENGTHS: [(usize, &[u8]); 2] = [(4096, b"ended"), (4097, b"bad")];
@@ -64,20 +62,18 @@ const TRAILER_FIELDS: [(usize, &[u8], &[u8]); 5] = [
 ];
 
 #[test]
-fn keeps_limits_of_chunks(rt: HostRuntime) -> Result<(), Fail> {
-    let alloc = rt.alloc();
+fn keeps_limits_of_chunks(rt: HostRuntime) {
     let asked = Inquiry::Body(Framing::Chunked);
     for (len, want) in LINE_LENGTHS {
-        let text = filled(alloc, b"0;", b"\r\n\r\n", len + 2)?;
-        check_bytes(&rt, alloc, asked, text.as_slice(), want)?;
+        let text = filled(&rt, b"0;", b"\r\n\r\n", len + 2);
+        check_bytes(&rt, asked, text.as_slice(), want);
     }
     for (len, want) in TRAILER_LENGTHS {
-        let text = filled(alloc, b"0\r\na:", b"\r\n\r\n", len + 3)?;
-        check_bytes(&rt, alloc, asked, text.as_slice(), want)?;
+        let text = filled(&rt, b"0\r\na:", b"\r\n\r\n", len + 3);
+        check_bytes(&rt, asked, text.as_slice(), want);
     }
     for (count, end, want) in TRAILER_FIELDS {
-        let text = with_lines(alloc, b"0\r\n", count, end)?;
-        check_bytes(&rt, alloc, asked, text.as_slice(), want)?;
+        let text = with_lines(&rt, b"0\r\n", count, end);
+        check_bytes(&rt, asked, text.as_slice(), want);
     }
-    Ok(())
 }

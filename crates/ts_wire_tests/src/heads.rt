@@ -1,11 +1,10 @@
 //! Heads that are read, checked and sent on.
 
 use crate::answers::Inquiry;
-use crate::rows::{check_bytes, check_rows, filled, with_lines};
+use crate::rows::{MEMORY, check_bytes, check_rows, filled, with_lines};
 use http_header::{HeaderName, HeaderValue};
 use std::alloc::Global;
 use std::process::Abort;
-use std::test::Fail;
 use ts_link::NoMemory;
 use ts_wire::{
     ClientFraming, Field, Fields, Read, client_head, plugin_host, read_request, read_response,
@@ -51,9 +50,9 @@ GET / HTTP/1.0\r\nA: 1\r\n\r\n => GET / HTTP/1.1\r\nhost: \r\na: 1\r\nvia: 1.0 t
 ";
 
 #[test]
-fn checks_and_sends_requests(rt: HostRuntime) -> Result<(), Fail> {
-    check_rows(&rt, rt.alloc(), Inquiry::Check, CHECKED)?;
-    check_rows(&rt, rt.alloc(), Inquiry::Sent, SENT)
+fn checks_and_sends_requests(rt: HostRuntime) {
+    check_rows(&rt, Inquiry::Check, CHECKED);
+    check_rows(&rt, Inquiry::Sent, SENT);
 }
 
 const ENDS: &str = r"
@@ -99,18 +98,17 @@ HTTP/1.0 007 \xe4\r\nConnection: X-a, y\r\nx-A: 1\r\nY: 2\r\nTE: 3\r\nZ: 4\r\n\r
 ";
 
 #[test]
-fn reads_and_relays_responses(rt: HostRuntime) -> Result<(), Fail> {
-    let alloc = rt.alloc();
-    check_rows(&rt, alloc, Inquiry::Ends(false), ENDS)?;
-    check_rows(&rt, alloc, Inquiry::Ends(true), ENDS_TO_HEAD)?;
+fn reads_and_relays_responses(rt: HostRuntime) {
+    check_rows(&rt, Inquiry::Ends(false), ENDS);
+    check_rows(&rt, Inquiry::Ends(true), ENDS_TO_HEAD);
     let nothing = Inquiry::Relayed(ClientFraming::Nothing);
-    check_rows(&rt, alloc, nothing, RELAYED_WITH_NOTHING)?;
+    check_rows(&rt, nothing, RELAYED_WITH_NOTHING);
     let sized = Inquiry::Relayed(ClientFraming::Sized(3));
-    check_rows(&rt, alloc, sized, RELAYED_WITH_3)?;
+    check_rows(&rt, sized, RELAYED_WITH_3);
     let chunked = Inquiry::Relayed(ClientFraming::Chunked);
-    check_rows(&rt, alloc, chunked, RELAYED_IN_CHUNKS)?;
+    check_rows(&rt, chunked, RELAYED_IN_CHUNKS);
     let close = Inquiry::Relayed(ClientFraming::Close);
-    check_rows(&rt, alloc, close, RELAYED_UNTIL_CLOSE)
+    check_rows(&rt, close, RELAYED_UNTIL_CLOSE);
 }
 
 /// What is asked of a head with so many field lines or bytes and this end, and what is answered.
@@ -137,17 +135,15 @@ const LENGTHS: [Lines; 6] = [
 ];
 
 #[test]
-fn keeps_limits_of_heads(rt: HostRuntime) -> Result<(), Fail> {
-    let alloc = rt.alloc();
+fn keeps_limits_of_heads(rt: HostRuntime) {
     for (asked, count, end, want) in LINES {
-        let text = with_lines(alloc, b"GET / HTTP/1.0\r\n", count, end)?;
-        check_bytes(&rt, alloc, asked, text.as_slice(), want)?;
+        let text = with_lines(&rt, b"GET / HTTP/1.0\r\n", count, end);
+        check_bytes(&rt, asked, text.as_slice(), want);
     }
     for (asked, len, end, want) in LENGTHS {
-        let text = filled(alloc, b"GET / HTTP/1.0\r\na:", end, len)?;
-        check_bytes(&rt, alloc, asked, text.as_slice(), want)?;
+        let text = filled(&rt, b"GET / HTTP/1.0\r\na:", end, len);
+        check_bytes(&rt, asked, text.as_slice(), want);
     }
-    Ok(())
 }
 
 /// How many bytes the head of a response at the front has, or 0 where more bytes are awaited.
@@ -172,39 +168,38 @@ fn first_head(alloc: Global, bytes: &[u8]) -> Result<Option<(usize, usize)>, NoM
 }
 
 #[test]
-fn reads_a_head_byte_by_byte(rt: HostRuntime) -> Result<(), Fail> {
+fn reads_a_head_byte_by_byte(rt: HostRuntime) {
     let bytes: &[u8] =
         b"HTTP/1.1 200 OK\r\nTransfer-Encoding: chunked\r\n\r\n3;x=1\r\nabc\r\n0\r\nT: 1\r\n\r\n";
-    assert_eq!(rt; first_head(rt.alloc(), bytes)?, Some((47, 47)));
-    let used = match read_request(rt.alloc(), b"GET / HTTP/1.1\r\nHost: a\r\n\r\nGET /x")? {
+    let first = first_head(rt.alloc(), bytes);
+    let request = b"GET / HTTP/1.1\r\nHost: a\r\n\r\nGET /x";
+    let used = match read_request(rt.alloc(), request).expect(&rt, MEMORY) {
         Read::Head { head: _, used } => used,
         _ => 0,
     };
-    assert_eq!(rt; used, 27);
-    Ok(())
+    assert_eq!(rt; (first, used), (Ok(Some((47, 47))), 27));
 }
 
 #[test]
-fn prints_an_answer_of_its_own(rt: HostRuntime) -> Result<(), Fail> {
+fn prints_an_answer_of_its_own(rt: HostRuntime) {
     let mut fields = Fields::new(rt.alloc());
-    fields.push(Field {
+    let field = Field {
         name: HeaderName::from_static("content-type"),
         value: HeaderValue::from_static("text/plain"),
-    })?;
-    check_answer(&rt, rt.alloc(), &fields)?;
+    };
+    fields.push(field).expect(&rt, MEMORY);
+    check_answer(&rt, &fields);
     fields.remove_all(&HeaderName::from_static("content-type"));
     assert_eq!(rt; fields.items().len(), 0);
-    Ok(())
 }
 
-fn check_answer(rt: &impl Abort, alloc: Global, fields: &Fields) -> Result<(), Fail> {
+fn check_answer(rt: &(impl AllocGlobal + Abort), fields: &Fields) {
     let framing = ClientFraming::Sized(14);
-    let own = client_head(alloc, 403, b"Forbidden", fields, None, framing)?;
+    let own = client_head(rt.alloc(), 403, b"Forbidden", fields, None, framing).expect(rt, MEMORY);
     let want: &[u8] =
         b"HTTP/1.1 403 Forbidden\r\ncontent-type: text/plain\r\ncontent-length: 14\r\n\
 connection: close\r\n\r\n";
     assert_eq!(rt; own.bytes(), want);
-    Ok(())
 }
 
 const HOSTS: [(&[u8], &[u8]); 5] = [
@@ -216,9 +211,9 @@ const HOSTS: [(&[u8], &[u8]); 5] = [
 ];
 
 #[test]
-fn names_hosts_to_plugins(rt: HostRuntime) -> Result<(), Fail> {
+fn names_hosts_to_plugins(rt: HostRuntime) {
     for (host, want) in HOSTS {
-        assert_eq!(rt; plugin_host(rt.alloc(), host)?.bytes(), want);
+        let name = plugin_host(rt.alloc(), host).expect(&rt, MEMORY);
+        assert_eq!(rt; name.bytes(), want);
     }
-    Ok(())
 }

@@ -5,63 +5,40 @@ ghost use Rattle.std.specs.Prelude.{◌<◌};
 use crate::answers::{Inquiry, answer};
 use std::alloc::Global;
 use std::process::Abort;
-use std::test::Fail;
 use ts_link::NoMemory;
 
+/// What a test that wants memory says.
+pub(crate) const MEMORY: &str = "ample memory";
+
 /// Holds each row against what is answered. A line that begins with `#` says what the rows below it show.
-pub(crate) fn check_rows(
-    rt: &impl Abort,
-    alloc: Global,
-    asked: Inquiry,
-    table: &str,
-) -> Result<(), Fail> {
+pub(crate) fn check_rows(rt: &(impl AllocGlobal + Abort), asked: Inquiry, table: &str) {
     for line in table.lines() {
         if line.is_empty() || line.starts_with('#') {
             continue;
         }
         match line.split_once(" => ") {
-            Some((input, want)) => check_row(rt, alloc, asked, input.trim_end(), want)?,
+            Some((input, want)) => check_row(rt, asked, input.trim_end(), want),
             None => assert!(rt; false, "no row: {line}"),
         }
     }
-    Ok(())
 }
 
-fn check_row(
-    rt: &impl Abort,
-    alloc: Global,
-    asked: Inquiry,
-    input: &str,
-    want: &str,
-) -> Result<(), Fail> {
-    let bytes = unescaped(alloc, input)?;
-    let got = answer(alloc, asked, bytes.as_slice())?;
-    check_text(rt, alloc, input, got.bytes(), want)
-}
-
-fn check_text(
-    rt: &impl Abort,
-    alloc: Global,
-    input: &str,
-    got: &[u8],
-    want: &str,
-) -> Result<(), Fail> {
-    let want = unescaped(alloc, want)?;
-    assert_eq!(rt; got, want.as_slice(), "{input}");
-    Ok(())
+fn check_row(rt: &(impl AllocGlobal + Abort), asked: Inquiry, input: &str, want: &str) {
+    let bytes = unescaped(rt.alloc(), input).expect(rt, MEMORY);
+    let wanted = unescaped(rt.alloc(), want).expect(rt, MEMORY);
+    let got = answer(rt.alloc(), asked, bytes.as_slice()).expect(rt, MEMORY);
+    assert_eq!(rt; got.bytes(), wanted.as_slice(), "{input}");
 }
 
 /// Holds what is answered to these bytes against what is wanted.
 pub(crate) fn check_bytes(
-    rt: &impl Abort,
-    alloc: Global,
+    rt: &(impl AllocGlobal + Abort),
     asked: Inquiry,
     bytes: &[u8],
     want: &[u8],
-) -> Result<(), Fail> {
-    let got = answer(alloc, asked, bytes)?;
+) {
+    let got = answer(rt.alloc(), asked, bytes).expect(rt, MEMORY);
     assert_eq!(rt; got.bytes(), want);
-    Ok(())
 }
 
 fn hex_value(digit: u8) -> u8
@@ -112,28 +89,29 @@ fn named(letter: u8) -> u8 {
 
 /// `start`, then so many bytes `x` that there are `len` with `end`.
 pub(crate) fn filled(
-    alloc: Global,
+    rt: &(impl AllocGlobal + Abort),
     start: &[u8],
     end: &[u8],
     len: usize,
-) -> Result<Vec<u8>, NoMemory> {
-    let mut text = Vec::from_slice(alloc, start)?;
-    text.resize(len.saturating_sub(end.len()), b'x')?;
-    text.extend_from_slice(end)?;
-    Ok(text)
+) -> Vec<u8> {
+    let mut text = Vec::from_slice(rt.alloc(), start).expect(rt, MEMORY);
+    text.resize(len.saturating_sub(end.len()), b'x')
+        .expect(rt, MEMORY);
+    text.extend_from_slice(end).expect(rt, MEMORY);
+    text
 }
 
 /// `start`, then so many field lines, then `end`.
 pub(crate) fn with_lines(
-    alloc: Global,
+    rt: &(impl AllocGlobal + Abort),
     start: &[u8],
     lines: usize,
     end: &[u8],
-) -> Result<Vec<u8>, NoMemory> {
-    let mut text = Vec::from_slice(alloc, start)?;
+) -> Vec<u8> {
+    let mut text = Vec::from_slice(rt.alloc(), start).expect(rt, MEMORY);
     for _ in 0..lines {
-        text.extend_from_slice(b"a:b\r\n")?;
+        text.extend_from_slice(b"a:b\r\n").expect(rt, MEMORY);
     }
-    text.extend_from_slice(end)?;
-    Ok(text)
+    text.extend_from_slice(end).expect(rt, MEMORY);
+    text
 }
