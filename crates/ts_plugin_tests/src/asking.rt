@@ -2,13 +2,19 @@
 
 use http_header::{HeaderName, HeaderValue};
 use std::alloc::Global;
-use std::test::Fail;
+use std::process::Abort;
 use ts_config::{PluginLine, Rule, Side, Sites};
 use ts_group::{Group, ONLY_SEAT};
 use ts_hooks::{Hook, HookAnswer};
 use ts_link::{NoMemory, Octets};
 use ts_plugin::{HookQuestion, HookReply, Plugin, PluginFault, table_of};
 use ts_wire::{Field, Fields, plugin_host};
+
+/// What a test that wants memory says.
+pub const MEMORY: &str = "ample memory";
+
+// What a test says where a field is not to be read.
+const FIELD: &str = "a name and a value of a field";
 
 /// How many lines a row has at most.
 pub const MOST_LINES: usize = 64;
@@ -36,28 +42,35 @@ pub fn deny_line(alloc: Global, sites: &[&[u8]]) -> Result<PluginLine, NoMemory>
 }
 
 // The side and the rule of a line as it is written.
-fn rule_of(alloc: Global, written: Written) -> Result<(Side, Rule), Fail> {
+fn rule_of(rt: &(impl AllocGlobal + Abort), written: Written) -> (Side, Rule) {
     let (side, word, name, value) = written;
-    let name = HeaderName::from_bytes(alloc, name)?;
-    let value = HeaderValue::from_bytes(alloc, value)?;
+    let Field { name, value } = field(rt, name, value);
     let rule = match word {
         Word::Set => Rule::Set { name, value },
         Word::Add => Rule::Add { name, value },
         Word::Remove => Rule::Remove { name },
     };
-    Ok((side, rule))
+    (side, rule)
+}
+
+// A field of this name and value.
+fn field(rt: &(impl AllocGlobal + Abort), name: &[u8], value: &[u8]) -> Field {
+    Field {
+        name: HeaderName::from_bytes(rt.alloc(), name).expect(rt, FIELD),
+        value: HeaderValue::from_bytes(rt.alloc(), value).expect(rt, FIELD),
+    }
 }
 
 /// A line `header.so`.
-pub fn header_line(alloc: Global, written: Written) -> Result<PluginLine, Fail> {
-    let (side, rule) = rule_of(alloc, written)?;
-    Ok(PluginLine::Header { side, rule })
+pub fn header_line(rt: &(impl AllocGlobal + Abort), written: Written) -> PluginLine {
+    let (side, rule) = rule_of(rt, written);
+    PluginLine::Header { side, rule }
 }
 
 /// A line `session.so`.
-pub fn session_line(alloc: Global, written: Written) -> Result<PluginLine, Fail> {
-    let (side, rule) = rule_of(alloc, written)?;
-    Ok(PluginLine::SessionHeader { side, rule })
+pub fn session_line(rt: &(impl AllocGlobal + Abort), written: Written) -> PluginLine {
+    let (side, rule) = rule_of(rt, written);
+    PluginLine::SessionHeader { side, rule }
 }
 
 /// A question at a hook, for the host of a request as it was written, with no fields.
@@ -71,21 +84,16 @@ pub fn question_for(alloc: Global, hook: Hook, host: &[u8]) -> Result<HookQuesti
 
 /// A question at a hook about these fields.
 pub fn question_about(
-    alloc: Global,
+    rt: &(impl AllocGlobal + Abort),
     hook: Hook,
     pairs: &[(&[u8], &[u8])],
-) -> Result<HookQuestion, Fail> {
-    let mut fields = Fields::new(alloc);
+) -> HookQuestion {
+    let host = Octets::copy_of(rt.alloc(), b"a").expect(rt, MEMORY);
+    let mut fields = Fields::new(rt.alloc());
     for (name, value) in pairs {
-        let name = HeaderName::from_bytes(alloc, name)?;
-        let value = HeaderValue::from_bytes(alloc, value)?;
-        fields.push(Field { name, value })?;
+        fields.push(field(rt, name, value)).expect(rt, MEMORY);
     }
-    Ok(HookQuestion {
-        hook,
-        host: Octets::copy_of(alloc, b"a")?,
-        fields,
-    })
+    HookQuestion { hook, host, fields }
 }
 
 /// The group of a plugin that was asked in its first turn, and its reply.
@@ -155,65 +163,64 @@ pub fn asked_outcome(
 
 // The fields after the plugin of a header rule was asked.
 fn ask_rule(
-    alloc: Global,
+    rt: &(impl AllocGlobal + Abort),
     line: &PluginLine,
     hook: Hook,
     host: &[u8],
     fields: Fields,
-) -> Result<Fields, Fail> {
-    let host = Octets::copy_of(alloc, host)?;
-    let reply = ask(alloc, line, HookQuestion { hook, host, fields })?;
+) -> Fields {
+    let host = Octets::copy_of(rt.alloc(), host).expect(rt, MEMORY);
+    let reply = ask(rt.alloc(), line, HookQuestion { hook, host, fields }).expect(rt, MEMORY);
     match reply.answer {
-        Ok(HookAnswer::Continue) => Ok(reply.fields),
-        _ => Err("a header rule lets go on")?,
+        Ok(HookAnswer::Continue) => reply.fields,
+        _ => panic!(rt; "a header rule lets go on"),
     }
 }
 
 // The places of the lines whose plugins a hook has, in their order.
-fn places_at(alloc: Global, lines: &[PluginLine], hook: Hook) -> Result<Vec<usize>, Fail> {
+fn places_at(rt: &(impl AllocGlobal + Abort), lines: &[PluginLine], hook: Hook) -> Vec<usize> {
     if lines.len() > MOST_LINES {
-        return Err("a row has few lines")?;
+        panic!(rt; "a row has few lines")
     }
-    let table = table_of(alloc, lines, 0)?;
-    let mut places = Vec::new(alloc);
+    let table = table_of(rt.alloc(), lines, 0).expect(rt, MEMORY);
+    let mut places = Vec::new(rt.alloc());
     for place in 0..lines.len() {
         let Some(group) = table.next(hook, place) else {
             break;
         };
-        places.push(group as usize)?;
+        places.push(group as usize).expect(rt, MEMORY);
     }
-    Ok(places)
+    places
 }
 
 /// The fields after the plugins of a hook were asked, in the order of their lines.
 pub fn ask_in_turn(
-    alloc: Global,
+    rt: &(impl AllocGlobal + Abort),
     lines: &[PluginLine],
     question: HookQuestion,
-) -> Result<Fields, Fail> {
+) -> Fields {
     let HookQuestion {
         hook,
         host,
         mut fields,
     } = question;
-    let places = places_at(alloc, lines, hook)?;
+    let places = places_at(rt, lines, hook);
     for place in places.as_slice() {
         let Some(line) = lines.get(*place) else {
-            return Err("a line stands there")?;
+            panic!(rt; "a line stands there")
         };
-        fields = ask_rule(alloc, line, hook, host.bytes(), fields)?;
+        fields = ask_rule(rt, line, hook, host.bytes(), fields);
     }
-    Ok(fields)
+    fields
 }
 
 /// The fields as a head has them, each with a line feed behind it.
-pub fn text_of(alloc: Global, fields: &Fields) -> Result<Octets, Fail> {
-    let mut text = Vec::new(alloc);
+pub fn text_of(rt: &(impl AllocGlobal + Abort), fields: &Fields) -> Octets {
+    let mut text = Vec::new(rt.alloc());
     for field in fields.items() {
-        text.extend_from_slice(field.name.as_bytes())?;
-        text.extend_from_slice(b": ")?;
-        text.extend_from_slice(field.value.as_bytes())?;
-        text.extend_from_slice(b"\n")?;
+        for part in [field.name.as_bytes(), b": ", field.value.as_bytes(), b"\n"] {
+            text.extend_from_slice(part).expect(rt, MEMORY);
+        }
     }
-    Ok(Octets::of_vec(text))
+    Octets::of_vec(text)
 }

@@ -2,11 +2,10 @@
 //! their lines.
 
 use crate::asking::{
-    MOST_LINES, Word, Written, ask_in_turn, deny_line, header_line, question_about, session_line,
-    text_of,
+    MEMORY, MOST_LINES, Word, Written, ask_in_turn, deny_line, header_line, question_about,
+    session_line, text_of,
 };
-use std::alloc::Global;
-use std::test::Fail;
+use std::process::Abort;
 use ts_config::{PluginLine, Side};
 use ts_hooks::Hook;
 use ts_link::Octets;
@@ -94,57 +93,44 @@ const ROWS: [Row; 8] = [
 ];
 
 // The lines of a row, behind a deny list.
-fn lines_of(alloc: Global, row: &Row) -> Result<Vec<PluginLine>, Fail> {
-    let mut lines = Vec::new(alloc);
-    lines.push(deny_line(alloc, &[b"a"])?)?;
+fn lines_of(rt: &(impl AllocGlobal + Abort), row: &Row) -> Vec<PluginLine> {
+    let mut lines = Vec::new(rt.alloc());
+    let first = deny_line(rt.alloc(), &[b"a"]).expect(rt, MEMORY);
+    lines.push(first).expect(rt, MEMORY);
     for written in row.lines {
-        lines.push(header_line(alloc, *written)?)?;
+        lines.push(header_line(rt, *written)).expect(rt, MEMORY);
     }
-    Ok(lines)
+    lines
 }
 
 // The fields of a row after the plugins of a hook were asked.
-fn text_at(alloc: Global, row: &Row, hook: Hook) -> Result<Octets, Fail> {
-    let lines = lines_of(alloc, row)?;
-    let question = question_about(alloc, hook, row.before)?;
-    let fields = ask_in_turn(alloc, lines.as_slice(), question)?;
-    text_of(alloc, &fields)
+fn text_at(rt: &(impl AllocGlobal + Abort), row: &Row, hook: Hook) -> Octets {
+    let question = question_about(rt, hook, row.before);
+    let lines = lines_of(rt, row);
+    let fields = ask_in_turn(rt, lines.as_slice(), question);
+    text_of(rt, &fields)
 }
 
 #[test]
-fn rules_are_applied_in_the_order_of_their_lines(rt: HostRuntime) -> Result<(), Fail> {
+fn rules_are_applied_in_the_order_of_their_lines(rt: HostRuntime) {
     for (place, row) in ROWS.iter().enumerate() {
-        let request = text_at(rt.alloc(), row, Hook::SendRequestHdr)?;
+        let request = text_at(&rt, row, Hook::SendRequestHdr);
+        let response = text_at(&rt, row, Hook::SendResponseHdr);
         assert_eq!(rt; request.bytes(), row.request, "request of row {place}");
-        let response = text_at(rt.alloc(), row, Hook::SendResponseHdr)?;
         assert_eq!(rt; response.bytes(), row.response, "response of row {place}");
     }
-    Ok(())
 }
 
 // A rule of a session is applied behind one of all transactions, though its line stands before the other.
 #[test]
-fn rules_of_all_transactions_come_before_those_of_a_session(rt: HostRuntime) -> Result<(), Fail> {
-    let session = (
-        Side::Response,
-        Word::Add,
-        b"x-a".as_slice(),
-        b"2".as_slice(),
-    );
-    let header = (
-        Side::Response,
-        Word::Add,
-        b"x-a".as_slice(),
-        b"1".as_slice(),
-    );
-    let mut lines = Vec::new(rt.alloc());
-    lines.push(session_line(rt.alloc(), session)?)?;
-    lines.push(header_line(rt.alloc(), header)?)?;
-    let question = question_about(rt.alloc(), Hook::SendResponseHdr, &[])?;
-    let fields = ask_in_turn(rt.alloc(), lines.as_slice(), question)?;
-    let text = text_of(rt.alloc(), &fields)?;
+fn rules_of_all_transactions_come_before_those_of_a_session(rt: HostRuntime) {
+    let question = question_about(&rt, Hook::SendResponseHdr, &[]);
+    let session = session_line(&rt, (Side::Response, Word::Add, b"x-a", b"2"));
+    let header = header_line(&rt, (Side::Response, Word::Add, b"x-a", b"1"));
+    let lines = Vec::from_array(rt.alloc(), [session, header]).expect(&rt, MEMORY);
+    let fields = ask_in_turn(&rt, lines.as_slice(), question);
+    let text = text_of(&rt, &fields);
     assert_eq!(rt; text.bytes(), b"x-a: 1\nx-a: 2\n".as_slice());
-    Ok(())
 }
 
 // The group of the first line's plugin.
@@ -165,20 +151,17 @@ const PLACES: [(Hook, usize, Option<u32>); 10] = [
 ];
 
 #[test]
-fn the_plugins_of_a_hook_are_asked_in_the_order_of_their_lines(
-    rt: HostRuntime,
-) -> Result<(), Fail> {
-    let lines = lines_of(rt.alloc(), &ROWS[7])?;
+fn the_plugins_of_a_hook_are_asked_in_the_order_of_their_lines(rt: HostRuntime) {
+    let lines = lines_of(&rt, &ROWS[7]);
     if lines.len() > MOST_LINES {
-        return Err("a row has few lines")?;
+        panic!(rt; "a row has few lines")
     }
-    let table = table_of(rt.alloc(), lines.as_slice(), FIRST)?;
+    let table = table_of(rt.alloc(), lines.as_slice(), FIRST).expect(&rt, MEMORY);
     for (row, (hook, place, group)) in PLACES.iter().enumerate() {
         assert_eq!(rt; table.next(*hook, *place), *group, "row {row}");
     }
     let Some(first) = lines.as_slice().first() else {
-        return Err("a deny list stands first")?;
+        panic!(rt; "a deny list stands first")
     };
     assert!(rt; matches!(hook_of(first), Hook::OsDns));
-    Ok(())
 }
