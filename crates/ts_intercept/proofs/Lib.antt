@@ -1,0 +1,9 @@
+pub mod Plans
+pub mod Looks
+pub mod Bounds
+pub mod Heads
+pub mod Lengths
+pub mod Calls
+pub mod Moves
+pub mod Uploads
+pub mod Answering
