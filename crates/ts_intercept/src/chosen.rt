@@ -1,5 +1,5 @@
 //! The link to an origin, where a line of the configuration may answer in its place.
-ghost use Rattle.std.specs.Prelude.{◌≡◌, ◌<◌, [], false, is_some, length, true, IfOk};
+ghost use Rattle.std.specs.Prelude.{◌≡◌, ◌<◌, false, is_some, length, true, IfOk};
 ghost use Rattle.std.specs.Arc.{arc_value};
 ghost use Rattle.ts_link.specs.Link.{Reads, Writes};
 ghost use Rattle.ts_intercept.specs.Answered.{Answered};

@@ -1,5 +1,5 @@
 //! Bytes that are gone, which contracts still see.
-ghost use Rattle.std.specs.Prelude.{◌≡◌, ◌++◌, ◌∷◌, [], take};
+ghost use Rattle.std.specs.Prelude.{◌≡◌, ◌++◌, ◌∷◌, []};
 ghost use Rattle.ts_intercept.specs.Gone.{bytes_of};
 
 use std::marker::Model;

@@ -2,7 +2,6 @@
 ghost use Rattle.std.specs.Prelude.{◌≡◌, ◌+◌, ◌≤◌, length, IfOk, IfSome, MatchOption};
 ghost use Rattle.std.specs.List.{find};
 ghost use Rattle.std.specs.Option.{option_copied};
-ghost use Rattle.std.specs.Str.{str_eq_ignore_ascii_case};
 ghost use Rattle.http_header.specs.Token.{lowercase};
 ghost use Rattle.ts_wire.specs.Blank.{LacksBlank};
 ghost use Rattle.ts_intercept.specs.Deciding.{HasHead};

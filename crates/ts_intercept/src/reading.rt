@@ -1,6 +1,5 @@
 //! Reads of a link that chooses.
 ghost use Rattle.std.specs.Prelude.{◌≡◌, ◌+◌, ◌<◌, ◌≤◌, drop, length, true};
-ghost use Rattle.ts_link.specs.Counts.{one_more};
 ghost use Rattle.ts_link.specs.Link.{Reads};
 ghost use Rattle.ts_link.specs.LinkAnswers.{count_got};
 ghost use Rattle.ts_intercept.specs.Moving.{Both, GivesFront, Goes, ReadsBy, ReadsInside};

@@ -1,11 +1,11 @@
 //! Writes to a link that chooses.
-ghost use Rattle.std.specs.Prelude.{◌≡◌, ◌+◌, ◌<◌, ◌≤◌, ◌++◌, drop, length, is_some, true, IfOk, IsErr, OnErr, OnOk};
+ghost use Rattle.std.specs.Prelude.{◌≡◌, ◌+◌, ◌<◌, ◌≤◌, ◌++◌, length, is_some, true, IfOk, IsErr, OnErr, OnOk};
 ghost use Rattle.ts_link.specs.Link.{Writes};
 ghost use Rattle.ts_link.specs.LinkAnswers.{writes_after};
 ghost use Rattle.ts_intercept.specs.Deciding.{Decides, HasRoom};
 ghost use Rattle.ts_intercept.specs.Limits.{most_held};
 ghost use Rattle.ts_intercept.specs.Moving.{Goes, HoldsNoMore};
-ghost use Rattle.ts_intercept.specs.Seen.{seen, unsent};
+ghost use Rattle.ts_intercept.specs.Seen.{seen};
 ghost use Rattle.ts_intercept.specs.Standing.{HoldsNothing, IsSound, MayDrop};
 
 use crate::choice::{Choice, MOST_HELD, Stage, counted};

@@ -1,5 +1,5 @@
 //! Links in memory and setups for the tests: where memory is wanted, the test ends.
-ghost use Rattle.std.specs.Prelude.{◌≡◌, ◌<◌, [], length};
+ghost use Rattle.std.specs.Prelude.{◌≡◌, []};
 ghost use Rattle.ts_link.specs.MemLink.{look_of};
 
 use std::process::Abort;
