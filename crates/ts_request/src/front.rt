@@ -99,7 +99,6 @@ impl<C: Link + Drop> Front<C> {
         requires { O.paired self.old.client origin.old }
         ensures paired { StayPaired C.still O.still O.paired O.refuses
             self.old.client self.new.client origin.old origin.new }
-        ensures once { O.one_upload self.old.client origin.old self.new.client origin.new result }
         ensures causes { UploadCauses C.tells (O.refuses origin.old) result
             (C.look self.old.client) (C.look self.new.client) (O.look origin.old) (O.look origin.new) }
         ensures bytes { Uploads C.tells O.tells
