@@ -1,0 +1,9 @@
+pub mod Finding
+pub mod Front
+pub mod Held
+pub mod Laws
+pub mod Lines
+pub mod Seeking
+pub mod Sent
+pub mod Text
+pub mod Upload

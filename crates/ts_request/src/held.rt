@@ -1,0 +1,161 @@
+//! What a front holds of the bytes that its client gave: the head of a request until it is known, and what is
+//! shown of it and follows it from then on.
+ghost use Rattle.std.specs.Prelude.{◌≡◌, ◌<◌, ◌≤◌, [], length, IfOk};
+ghost use Rattle.ts_wire.specs.Limits.{head_limit};
+ghost use Rattle.ts_request.specs.declared.stage.Stage.{Stage};
+ghost use Rattle.ts_request.specs.Held.{Copies, FillsFrom, GivesFront, HandsFront};
+ghost use Rattle.ts_request.specs.Text.{Decides, is_heading, no_text};
+
+use crate::finding::{Found, find_upload};
+use crate::lines::keep_lines;
+use crate::stage::Stage;
+use std::alloc::Global;
+use std::marker::Model;
+use ts_link::{Got, Link, NoMemory};
+use ts_wire::MAX_HEAD;
+
+// What a front holds. All of it stands in one room, as long as a head may be: first what is shown, and from
+// `from` to `to`, of an upload, what came behind the head and was not handed over.
+#[derive(Drop)]
+pub(crate) struct HeldText {
+    stage: Stage,
+    room: Vec<u8>,
+    // How many bytes of the room are shown, or will be if there is no upload.
+    kept: usize,
+    // How many of these were given.
+    shown: usize,
+    // How long the head of an upload was.
+    used: usize,
+    from: usize,
+    to: usize,
+}
+
+impl Model for HeldText {
+    ghost use Rattle.ts_request.specs.Text.{Text};
+
+    ghost Value = { Text };
+
+    ghost use Rattle.std.specs.Prelude.{◌≡◌, ◌≤◌, length, take, slice_range};
+    ghost use Rattle.ts_wire.specs.Limits.{head_limit};
+
+    ghost view = { λ t. record {
+      stage = t.stage;
+      front = take t.kept t.room.items;
+      shown = t.shown;
+      used = t.used;
+      behind = slice_range t.room.items t.from t.to;
+    } };
+
+    ghost invariant = { λ t. (length t.room.items ≡ head_limit)
+        × (t.kept ≤ head_limit) × (t.from ≤ t.to) × (t.to ≤ head_limit) };
+}
+
+// The room for as many bytes as a head may have.
+fn head_room(alloc: Global) -> Result<Vec<u8>, NoMemory>
+    ensures { IfOk result (λ room. length room.items ≡ head_limit) }
+{
+    let mut room = Vec::new(alloc);
+    room.resize(MAX_HEAD, 0)?;
+    Ok(room)
+}
+
+// Copies as much of the list as there is room for.
+fn copy_front(list: &[u8], into: &mut [u8]) -> usize
+    ensures { Copies list.now into.old into.new result }
+{
+    let count = list.len().min(into.len());
+    into[..count].copy_from_slice(&list[..count]);
+    count
+}
+
+impl HeldText {
+    // Nothing came yet. It takes all the memory that it ever needs.
+    pub(crate) fn make(alloc: Global) -> Result<HeldText, NoMemory>
+        ensures { IfOk result (λ t. t ≡ no_text) }
+    {
+        let room = head_room(alloc)?;
+        Ok(HeldText {
+            stage: Stage::Heading,
+            room,
+            kept: 0,
+            shown: 0,
+            used: 0,
+            from: 0,
+            to: 0,
+        })
+    }
+
+    pub(crate) fn stage(&self) -> Stage
+        ensures { result ≡ self.now.stage }
+    {
+        self.stage
+    }
+
+    pub(crate) fn is_heading(&self) -> bool
+        ensures { result ≡ is_heading self.now.stage }
+    {
+        matches!(self.stage, Stage::Heading)
+    }
+
+    // Reads the client behind what is held.
+    pub(crate) fn fill<C: Link>(&mut self, client: &mut C) -> Got
+        requires room { length self.old.front < head_limit }
+        requires behind { self.old.behind ≡ [] }
+        ensures fills { FillsFrom C.tells self.old self.new (C.look client.old) (C.look client.new) result }
+        ensures goes { C.goes client.old client.new }
+    {
+        let got = client.read(&mut self.room[self.kept..]);
+        if let Got::Bytes(count) = got {
+            self.kept += count;
+        }
+        self.from = self.kept;
+        self.to = self.kept;
+        got
+    }
+
+    // Looks whether it is known by now what is shown of the client.
+    pub(crate) fn decide(&mut self)
+        requires heading { self.old.stage ≡ Stage.Heading }
+        requires shown { self.old.shown ≡ 0 }
+        requires behind { self.old.behind ≡ [] }
+        ensures { Decides self.old self.new self.new.stage }
+    {
+        match find_upload(&self.room[..self.kept]) {
+            Found::More => {}
+            Found::Never => self.stage = Stage::Passing,
+            Found::Upload { framing, used } => {
+                self.to = self.kept;
+                self.from = used;
+                self.used = used;
+                self.kept = keep_lines(&mut self.room, used);
+                self.stage = Stage::Uploading(framing);
+            }
+        }
+    }
+
+    // The client has ended before a whole head: there is no upload.
+    pub(crate) fn pass(&mut self)
+        ensures { self.new ≡ record self.old { stage = Stage.Passing } }
+    {
+        self.stage = Stage::Passing;
+    }
+
+    // Gives some of what waits, and answers how many bytes.
+    pub(crate) fn give(&mut self, into: &mut [u8]) -> usize
+        requires { self.old.shown ≤ length self.old.front }
+        ensures { GivesFront self.old self.new into.old into.new result }
+    {
+        let count = copy_front(&self.room[self.shown..self.kept], into);
+        self.shown += count;
+        count
+    }
+
+    // Hands over some of what came behind the head, and answers how many bytes.
+    pub(crate) fn hand_over(&mut self, into: &mut [u8]) -> usize
+        ensures { HandsFront self.old self.new into.old into.new result }
+    {
+        let count = copy_front(&self.room[self.from..self.to], into);
+        self.from += count;
+        count
+    }
+}
