@@ -1,6 +1,6 @@
 -- A front, the link that shows what `Strips` says of the client's bytes: as a link, and the body of an upload
 -- that it hands over apart from it.
-use Rattle.std.specs.Prelude.{◌≡◌, ◌≢◌, ℕ, ◌-◌, ◌<◌, ◌≤◌, List, [], ◌++◌, length, take, drop, Bool, true, ⊤}
+use Rattle.std.specs.Prelude.{◌≡◌, ℕ, ◌-◌, ◌<◌, ◌≤◌, List, [], ◌++◌, length, take, drop, Bool, true, ⊤}
 use Rattle.httparse.specs.Grammar as grammar
 use Rattle.httparse.specs.Grammar.{print_request}
 use Rattle.ts_link.specs.Link.{Look, Calls, ReadsSurely, GivesMore, all_of}
@@ -67,7 +67,7 @@ body_left t l = body_left_by t.stage t l.left
 abbrev pub body_most_by : Stage → Text → Look → ℕ
 body_most_by S.Heading t l = length (all_of l)
 body_most_by S.Passing t l = 0
-body_most_by (S.Uploading framing) t l = length (body_left t l)
+body_most_by (S.Uploading framing) t l = length (t.behind ++ l.left)
 
 abbrev pub body_most : Text → Look → ℕ
 body_most t l = body_most_by t.stage t l

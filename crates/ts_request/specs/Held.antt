@@ -11,6 +11,13 @@ pub record FillsFrom (tells : Bool) (t t' : Text) (l l' : Look) (answer : Got) :
   pub reads : Reads tells l l' answer into
   pub text : t' ≡ with_more t (take (count_got answer) into)
 
+-- one read of the client into the room behind its first `kept` bytes
+pub record ReadsBehind (tells : Bool) (kept : ℕ) (room room' : List ℕ) (l l' : Look) (answer : Got) : Type 0 where
+  pub into : List ℕ
+  pub reads : Reads tells l l' answer into
+  pub room_is : room' ≡ take kept room ++ into
+  pub long : kept + length into ≡ length room
+
 -- so many bytes of the front of a list were copied to that of the room, as many as fit
 pub record Copies (list into into' : List ℕ) (count : ℕ) : Type 0 where
   pub count_is : count ≡ min (length list) (length into)

@@ -1,9 +1,8 @@
--- Calls of a front as a link: none at all, and calls after calls.
-use Rattle.std.specs.Prelude.{◌≡◌, ◌≤◌, List, ℕ, Bool, true, refl, sym, subst, ◌∙◌}
-use Rattle.std.proofs.Common.{arith}
+-- What calls of a front as a link leave of an upload: none at all, and calls after calls.
+use Rattle.std.specs.Prelude.{List, ℕ, Bool, refl}
+use Rattle.std.proofs.Common.{arith, subst, ◌∙◌}
 use Rattle.ts_link.specs.Link.{Look}
-use Rattle.ts_link.specs.declared.link.Link as link
-use Rattle.ts_request.specs.Front.{BodyStays, FrontGoes, FrontSeen, KeepsBody, StageStays}
+use Rattle.ts_request.specs.Front.{BodyStays, KeepsBody, StageStays}
 use Rattle.ts_request.specs.Text.{Text}
 use Rattle.ts_request.specs.declared.stage.Stage.{Stage}
 use Rattle.ts_request.specs.declared.stage.Stage.TheVariants as S
@@ -44,22 +43,4 @@ keeps_body_on tells t u v l m n p q = record {
   given = λ told. q.given told ∙ p.given told;
   left = λ told. body_goes_on t.stage u.stage _ _ _ p.stage (p.left told) (q.left told);
   most = λ told. let a = p.most told in let b = q.most told in Prim.omega arith;
-}
-
-pub front_stays : {C : Type 0} (client_link : link.Ghosts C) → ((c : C) → client_link.goes c c)
-    → (f : FrontSeen C) → FrontGoes client_link f f
-front_stays client_link stays f = record {
-  client = stays f.client;
-  source = refl;
-  body = keeps_body client_link.tells f.text (client_link.look f.client);
-}
-
-pub front_goes_on : {C : Type 0} (client_link : link.Ghosts C)
-    → ((c d e : C) → client_link.goes c d → client_link.goes d e → client_link.goes c e)
-    → (f g h : FrontSeen C) → FrontGoes client_link f g → FrontGoes client_link g h → FrontGoes client_link f h
-front_goes_on client_link goes_on f g h p q = record {
-  client = goes_on f.client g.client h.client p.client q.client;
-  source = q.source ∙ p.source;
-  body = keeps_body_on client_link.tells f.text g.text h.text
-      (client_link.look f.client) (client_link.look g.client) (client_link.look h.client) p.body q.body;
 }

@@ -1,6 +1,6 @@
 -- Which requests have a body that is passed on, what it is, and what a transaction is shown of its client
 -- (RFC 9112, sections 6 and 7.1; RFC 9110, section 10.1.1).
-use Rattle.std.specs.Prelude.{◌≡◌, ℕ, Bool, not, ◌||◌, List, ◌++◌, filter, Option, Some, None, codes, bytes_eq}
+use Rattle.std.specs.Prelude.{◌≡◌, ℕ, Bool, not, ◌||◌, List, ◌++◌, filter, Option, Some, codes, bytes_eq}
 use Rattle.http_header.specs.Token.{lowercase}
 use Rattle.httparse.specs.Grammar as grammar
 use Rattle.httparse.specs.Grammar.{print_request}

@@ -32,7 +32,13 @@ pub(crate) fn find_upload(bytes: &[u8]) -> Found
             },
             None => Found::Never,
         },
-        Ok(Status::Partial) if bytes.len() < MAX_HEAD => Found::More,
-        _ => Found::Never,
+        Ok(Status::Partial) => {
+            if bytes.len() < MAX_HEAD {
+                Found::More
+            } else {
+                Found::Never
+            }
+        }
+        Err(_) => Found::Never,
     }
 }

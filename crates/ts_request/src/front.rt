@@ -1,9 +1,10 @@
 //! The front of a client: a link that shows the head of a request with an upload without the lines that speak of
 //! its body, and hands the body over apart.
-ghost use Rattle.std.specs.Prelude.{◌≡◌, ◌≢◌, ◌<◌, ℕ, [], length, true, IfOk};
+ghost use Rattle.std.specs.Prelude.{◌≡◌, ◌≢◌, ◌<◌, [], length, true, refl, IfOk};
+ghost use Rattle.std.proofs.Common.{◌∙◌};
 ghost use Rattle.ts_link.specs.Link.{all_of};
 ghost use Rattle.ts_request.specs.Front.{FrontGoes, FrontStill, ReadsBody, ShowsClient, front_look, fresh_front};
-ghost use Rattle.ts_request.specs.Laws.{front_goes_on, front_stays};
+ghost use Rattle.ts_request.specs.Laws.{keeps_body, keeps_body_on};
 ghost use Rattle.ts_request.specs.Upload.{Strips};
 ghost use Rattle.ts_upstream.specs.Uploads.{StayPaired, UploadCauses, UploadFalls, UploadKeeps, Uploads, UploadsSurely, both};
 ghost use Rattle.ts_link.specs.Link.{IsSure};
@@ -152,11 +153,20 @@ impl<C: Link> Link for Front<C> {
         self.client.faults()
     }
 
-    ghost stays = { front_stays C.Link C.stays };
+    ghost stays = { λ f. record {
+      client = C.stays f.client;
+      source = refl;
+      body = keeps_body C.tells f.text (C.look f.client);
+    } };
 
-    ghost goes_on = { front_goes_on C.Link C.goes_on };
+    ghost goes_on = { λ f g h p q. record {
+      client = C.goes_on f.client g.client h.client p.client q.client;
+      source = q.source ∙ p.source;
+      body = keeps_body_on C.tells f.text g.text h.text (C.look f.client) (C.look g.client) (C.look h.client)
+          p.body q.body;
+    } };
 
-    ghost goes_still = { λ f g h. C.goes_still f.client g.client h.client };
+    ghost goes_still = { λ f g p. C.goes_still f.client g.client p.client };
 
     ghost still_on = { λ f g h. C.still_on f.client g.client h.client };
 }

@@ -1,9 +1,10 @@
 //! What a front holds of the bytes that its client gave: the head of a request until it is known, and what is
 //! shown of it and follows it from then on.
 ghost use Rattle.std.specs.Prelude.{◌≡◌, ◌<◌, ◌≤◌, [], length, IfOk};
+ghost use Rattle.ts_link.specs.LinkAnswers.{count_got};
 ghost use Rattle.ts_wire.specs.Limits.{head_limit};
 ghost use Rattle.ts_request.specs.declared.stage.Stage.{Stage};
-ghost use Rattle.ts_request.specs.Held.{Copies, FillsFrom, GivesFront, HandsFront};
+ghost use Rattle.ts_request.specs.Held.{Copies, FillsFrom, GivesFront, HandsFront, ReadsBehind};
 ghost use Rattle.ts_request.specs.Text.{Decides, is_heading, no_text};
 
 use crate::finding::{Found, find_upload};
@@ -68,6 +69,26 @@ fn copy_front(list: &[u8], into: &mut [u8]) -> usize
     count
 }
 
+// How many bytes a read put in place.
+fn count_of(got: Got) -> usize
+    ensures { result ≡ count_got got }
+{
+    match got {
+        Got::Bytes(count) => count,
+        _ => 0,
+    }
+}
+
+// Reads the client into the room behind its first `kept` bytes.
+fn read_behind<C: Link>(client: &mut C, room: &mut Vec<u8>, kept: usize) -> Got
+    requires { kept < length room.old.items }
+    ensures reads { ReadsBehind C.tells kept room.old.items room.new.items
+        (C.look client.old) (C.look client.new) result }
+    ensures goes { C.goes client.old client.new }
+{
+    client.read(&mut room[kept..])
+}
+
 impl HeldText {
     // Nothing came yet. It takes all the memory that it ever needs.
     pub(crate) fn make(alloc: Global) -> Result<HeldText, NoMemory>
@@ -104,10 +125,8 @@ impl HeldText {
         ensures fills { FillsFrom C.tells self.old self.new (C.look client.old) (C.look client.new) result }
         ensures goes { C.goes client.old client.new }
     {
-        let got = client.read(&mut self.room[self.kept..]);
-        if let Got::Bytes(count) = got {
-            self.kept += count;
-        }
+        let got = read_behind(client, &mut self.room, self.kept);
+        self.kept += count_of(got);
         self.from = self.kept;
         self.to = self.kept;
         got

@@ -1,5 +1,5 @@
 //! How a front reads its client: until its head is known, what is shown of it, and the body of an upload.
-ghost use Rattle.std.specs.Prelude.{◌≡◌, ◌≢◌, ◌<◌, ◌≤◌, ◌+◌, ◌⊎◌, ◌×◌, [], ℕ, length, true, false};
+ghost use Rattle.std.specs.Prelude.{◌≡◌, ◌≢◌, ◌<◌, ◌≤◌, ◌+◌, ◌⊎◌, [], ℕ, length, true, false};
 ghost use Rattle.ts_link.specs.LinkAnswers.{got_again, got_failed};
 ghost use Rattle.ts_request.specs.Front.{Holds, Moves, ReadsBody, Shows};
 ghost use Rattle.ts_request.specs.Seeking.{IsSought, SeeksOn, sought_again, sought_failed};
@@ -51,7 +51,7 @@ fn seek<C: Link>(client: &mut C, text: &mut HeldText) -> Sought
     ensures known { IsSought text.new.stage result }
     ensures goes { C.goes client.old client.new }
 {
-    while text.is_heading() {
+    'head: while text.is_heading() {
         match seek_once(client, text) {
             Sought::On => {}
             Sought::Again => return Sought::Again,
@@ -76,7 +76,8 @@ fn show<C: Link>(client: &mut C, text: &mut HeldText, into: &mut [u8]) -> Got
     }
     match text.stage() {
         Stage::Uploading(_) => Got::End,
-        _ => client.read(into),
+        Stage::Passing => client.read(into),
+        Stage::Heading => unreachable!(),
     }
 }
 

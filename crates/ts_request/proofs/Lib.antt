@@ -1,0 +1,9 @@
+pub mod FoundUpload
+pub mod FrontLink
+pub mod FrontMoves
+pub mod FrontShows
+pub mod HeadLines
+pub mod KeptLines
+pub mod LinkCalls
+pub mod OneUpload
+pub mod HeldBytes
