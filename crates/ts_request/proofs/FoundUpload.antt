@@ -27,10 +27,12 @@ too_many_ever bytes room wide over more h framing rest has =
     absurd (omega (arith, over more h rest has.begins.reads, has.begins.few, wide))
 
 -- none is there, in as many bytes as a head may have
-pub too_long_ever : (bytes : List ℕ) → length bytes ≤ head_limit → head_limit ≤ length bytes → HasNoRequest bytes
+pub too_long_ever : (bytes : List ℕ) → length bytes ≤ head_limit → head_limit ≤ length bytes
+    → HasNoRequest bytes
     → NeverHasUpload bytes
 too_long_ever bytes fits full none more h framing rest has =
-    (full_of_none {Exceeds = RequestExceeds} bytes bytes (sym (take_all head_limit bytes fits)) full none).lacks
+    (full_of_none {Exceeds = RequestExceeds} bytes bytes (sym
+    (take_all head_limit bytes fits)) full none).lacks
     more h rest has.begins
 
 -- one is there, and its request has no upload

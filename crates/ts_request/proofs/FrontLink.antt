@@ -1,5 +1,7 @@
--- A front as a link: what a write to it and calls of its client leave, and what is known of its client's bytes.
-use Rattle.std.proofs.Common.{◌≡◌, ◌≢◌, ℕ, ◌≤◌, Bool, true, List, [], ◌++◌, length, refl, sym, ap, subst, ◌∙◌, arith, append_assoc, length-append}
+-- A front as a link: what a write to it and calls of its client leave, and what is known of its client's
+-- bytes.
+use Rattle.std.proofs.Common.{◌≡◌, ◌≢◌, ℕ, ◌≤◌, Bool, true, List, [], ◌++◌, length, refl, sym, ap, subst, ◌∙◌}
+use Rattle.std.proofs.Common.{arith, append_assoc, length-append}
 use Rattle.std.proofs.lemmas.List.{take-append-drop}
 use Rattle.ts_lists.proofs.Fronts.{rest_by_length, same_fronts}
 use Rattle.httparse.specs.Grammar.{print_request}
@@ -9,7 +11,9 @@ use Rattle.ts_link.specs.declared.link.Got.{Got}
 use Rattle.ts_link.specs.declared.link.Put.{Put}
 use Rattle.ts_link.specs.declared.link.Put.TheVariants as P
 use Rattle.ts_upstream.specs.Uploads.{UploadsClient}
-use Rattle.ts_request.specs.Front.{BodyStays, Holds, HoldsLink, IsShown, KeepsBody, Shows, body_given, body_given_by, body_left, body_left_by, body_most_by, given_by, left_by, shown_through}
+use Rattle.ts_request.specs.Front.{BodyStays, Holds, HoldsLink, IsShown, KeepsBody, Shows, body_given}
+use Rattle.ts_request.specs.Front.{body_given_by, body_left, body_left_by, body_most_by, given_by, left_by}
+use Rattle.ts_request.specs.Front.{shown_through}
 use Rattle.ts_request.specs.Laws.{stage_stays}
 use Rattle.ts_request.specs.Text.{Text, no_text, waiting}
 use Rattle.ts_request.specs.Upload.{LacksUpload, Strips, other, upload}
@@ -26,15 +30,23 @@ left_stays : (s : Stage) → s ≢ S.Heading → (t : Text) (l m : Look) → Hol
 left_stays S.Heading known t l m link may = absurd (known refl)
 left_stays S.Passing known t l m link may = before_is l.given l.left m.left link.some may
 left_stays (S.Uploading framing) known t l m link may =
-    replace_not l.given l.left m.left (has_given l.given link.head framing (link.handed ++ t.behind) link.has) may
+    replace_not l.given l.left m.left (has_given l.given link.head framing
+    (link.handed ++ t.behind) link.has) may
 
 module _ (t : Text) (l m : Look) (given : m.given ≡ l.given) where
   shown_left : (s : Stage) → HoldsLink s t l → MayReplace l.given l.left m.left
       → MayReplace (given_by s t l.given) (left_by s t l.left) (left_by s t m.left)
   shown_left S.Heading link may =
-      omega (arith, replace_short l.given l.left m.left may, length-append t.front l.left, length-append t.front m.left)
+      omega (
+        arith,
+        replace_short l.given l.left m.left may,
+        length-append t.front l.left,
+        length-append
+            t.front m.left,
+      )
   shown_left S.Passing link may =
-      subst (λ x. MayReplace (given_by S.Passing t l.given) (left_by S.Passing t l.left) (left_by S.Passing t x))
+      subst (λ x. MayReplace (given_by S.Passing t l.given) (left_by S.Passing t l.left)
+      (left_by S.Passing t x))
       (sym (left_stays S.Passing (λ wrong. absurd (cc)) t l m link may)) (replace_none _ _)
   shown_left (S.Uploading framing) link may = replace_none _ _
 
@@ -70,7 +82,8 @@ module _ (t : Text) (l m : Look) (given : m.given ≡ l.given) where
 none_lacks : LacksUpload []
 none_lacks h framing rest has = let some = has_given [] h framing rest has in absurd (omega (arith, some))
 
-pub new_holds : (tells : Bool) (t : Text) (l : Look) → t ≡ no_text → (tells ≡ true → l.given ≡ []) → Holds tells t l
+pub new_holds : (tells : Bool) (t : Text) (l : Look) → t ≡ no_text → (tells ≡ true → l.given ≡ [])
+    → Holds tells t l
 new_holds tells t l none given =
     subst (λ u. Holds tells u l) (sym none)
     (record { text = (refl, refl, omega arith, none_lacks); link = given })
@@ -80,7 +93,8 @@ new_holds tells t l none given =
 -- what a read shows is one read of the front, of which so many were made
 pub reads_front : (tells : Bool) (t t' : Text) (l m : Look) (reads reads' : ℕ) (answer : Got) (into : List ℕ)
     → Shows tells t t' l m answer into → reads' ≡ one_more reads
-    → Reads tells (record (shown_through t l) { reads = reads }) (record (shown_through t' m) { reads = reads' })
+    → Reads tells (record (shown_through t l) { reads = reads }) (record
+    (shown_through t' m) { reads = reads' })
     answer into
 reads_front tells t t' l m reads reads' answer into shows counted = record {
   fills = shows.fills;
@@ -114,7 +128,8 @@ reads_front tells t t' l m reads reads' answer into shows counted = record {
 -- what a write to the client is as one to the front, of which so many reads were made
 pub writes_front : (tells : Bool) (t : Text) (reads : ℕ) (l m : Look) (answer : Put) (piece : List ℕ)
     → Holds tells t l → Writes tells l m answer piece
-    → Writes tells (record (shown_through t l) { reads = reads }) (record (shown_through t m) { reads = reads })
+    → Writes tells (record (shown_through t l) { reads = reads }) (record
+    (shown_through t m) { reads = reads })
     answer piece
 writes_front tells t reads l m answer piece holds w = record {
   takes = w.takes;
@@ -143,7 +158,8 @@ writes_front tells t reads l m answer piece holds w = record {
 }
   where
     lacks : (a : Put) → Lacks a l m
-        → Lacks a (record (shown_through t l) { reads = reads }) (record (shown_through t m) { reads = reads })
+        → Lacks a (record (shown_through t l) { reads = reads }) (record
+        (shown_through t m) { reads = reads })
     lacks (P.Took n) same = tt
     lacks P.Again same = tt
     lacks P.Failed same = tt
@@ -174,7 +190,8 @@ pub uploads_holds : (tells : Bool) (t : Text) (l m : Look) → Holds tells t l
     → (tells ≡ true → UploadsClient l m) → Holds tells t m
 uploads_holds tells t l m holds uploads =
     holds_same tells t l m (λ tell. (uploads tell).given)
-    (λ tell. (same_fronts m.given l.given m.left l.left (ap length (uploads tell).given) (uploads tell).all).1) holds
+    (λ tell. (same_fronts m.given l.given m.left l.left (ap length (uploads tell).given)
+    (uploads tell).all).1) holds
 
 -- ---- what is known of the client's bytes
 
@@ -196,7 +213,8 @@ shown_by (S.Uploading framing) t l link = (
         ap (λ g. g ++ l.left) link.has.begins.reads.1
             ∙ append_assoc (print_request link.head) (link.handed ++ t.behind) l.left
             ∙ ap (λ b. print_request link.head ++ b) (append_assoc link.handed t.behind l.left
-            ∙ ap (λ b. b ++ (t.behind ++ l.left)) (sym (body_is l.given (print_request link.head) link.handed t.behind
+            ∙ ap (λ b. b ++ (t.behind ++ l.left)) (sym (body_is l.given
+            (print_request link.head) link.handed t.behind
             t.used link.used_is link.has.begins.reads.1))),
       );
       short = link.has.begins.short;
@@ -212,7 +230,8 @@ pub knows_client : (tells : Bool) (t : Text) (l : Look) → Holds tells t l → 
 knows_client tells t l holds tell = shown_by t.stage t l (holds.link tell)
 
 -- that is what `Strips` says, once it is known what is shown
-pub strips_shown : (s : Stage) (c shown body : List ℕ) → s ≢ S.Heading → IsShown s c shown body → Strips c shown
+pub strips_shown : (s : Stage) (c shown body : List ℕ) → s ≢ S.Heading → IsShown s c shown body
+    → Strips c shown
 strips_shown S.Heading c shown body known is = absurd (known refl)
 strips_shown S.Passing c shown body known (lacks, same) = other lacks same
 strips_shown (S.Uploading framing) c shown body known (h, has, same) = upload h framing body has same

@@ -1,5 +1,7 @@
 -- What a front shows, call by call, and what stays true of it.
-use Rattle.std.proofs.Common.{◌≡◌, ◌≢◌, ◌⊎◌, inl, inr, ℕ, ◌+◌, ◌-◌, ◌<◌, ◌≤◌, Bool, true, false, cond, List, [], ◌∷◌, ◌++◌, length, take, drop, refl, sym, ap, subst, ◌∙◌, arith, append_assoc, length-append}
+use Rattle.std.proofs.Common.{◌≡◌, ◌≢◌, ◌⊎◌, inl, inr, ℕ, ◌+◌, ◌-◌, ◌<◌, ◌≤◌, Bool, true, false, cond, List}
+use Rattle.std.proofs.Common.{[], ◌∷◌, ◌++◌, length, take, drop, refl, sym, ap, subst, ◌∙◌, arith}
+use Rattle.std.proofs.Common.{append_assoc, length-append}
 use Rattle.std.proofs.lemmas.List.{append-nil, drop_at, length-take, nil_from_length, take-append-drop}
 use Rattle.ts_lists.proofs.Fronts.{rest_by_length}
 use Rattle.httparse.specs.Grammar as grammar
@@ -15,7 +17,8 @@ use Rattle.ts_request.specs.Text.{Decides, Text, is_heading, with_more}
 use Rattle.ts_request.specs.Upload.{HasUpload, LacksUpload, NeverHasUpload, without_body}
 use Rattle.ts_request.specs.declared.stage.Stage.{Stage}
 use Rattle.ts_request.specs.declared.stage.Stage.TheVariants as S
-use Rattle.ts_request.proofs.LinkCalls.{calls_after, calls_none, gives_after, gives_none, replace_short, sure_after, sure_none}
+use Rattle.ts_request.proofs.LinkCalls.{calls_after, calls_none, gives_after, gives_none, replace_short}
+use Rattle.ts_request.proofs.LinkCalls.{sure_after, sure_none}
 use Rattle.ts_request.proofs.HeadLines.{stripped_short}
 use Rattle.ts_wire.proofs.RequestLemmas.{request_some}
 
@@ -45,7 +48,8 @@ moves_after tells t u v l m n failed waited more p q = record {
 -- ---- parts of what is shown
 
 -- a front and the piece behind it
-pub piece_of : (list into rest : List ℕ) (count : ℕ) → take count into ≡ take count list → rest ≡ drop count list
+pub piece_of : (list into rest : List ℕ) (count : ℕ) → take count into ≡ take count list
+    → rest ≡ drop count list
     → list ≡ take count into ++ rest
 piece_of list into rest count copied left =
     sym (take-append-drop count list) ∙ (λ i. sym copied i ++ sym left i)
@@ -88,7 +92,8 @@ holds_same tells t l m given left holds = record {
 }
 
 -- where some was given, or nothing is left, what is left may not be replaced
-pub before_is : (given left before : List ℕ) → (given ≡ [] → left ≡ []) → MayReplace given left before → before ≡ left
+pub before_is : (given left before : List ℕ) → (given ≡ [] → left ≡ []) → MayReplace given left before
+    → before ≡ left
 before_is [] left before some may =
     let none = some refl in
     let long = ap length none in
@@ -123,7 +128,8 @@ heading_is t stage text =
     λ i. record { stage = stage i; front = t.front; shown = text.0 i; used = t.used; behind = text.1 i }
 
 -- what came is behind what was held, and nothing got longer
-module _ (front : List ℕ) (l m : Look) (more : List ℕ) (given : l.given ≡ front) (g : GivesMore l m more) where
+module _ (front : List ℕ) (l m : Look) (more : List ℕ) (given : l.given ≡ front)
+    (g : GivesMore l m more) where
   came_given : m.given ≡ front ++ more
   came_given = g.given ∙ ap (λ x. x ++ more) given
 
@@ -180,7 +186,8 @@ module _ (tells : Bool) (front : List ℕ) (used : ℕ) (l m : Look) (more : Lis
 
   -- there is no upload
   now_passing : (tells ≡ true → LacksUpload (all_of m)) → (tells ≡ true → m.given ≡ [] → m.left ≡ [])
-      → Moves tells (heading_text front used) (record (heading_text (front ++ more) used) { stage = S.Passing })
+      → Moves tells (heading_text front used) (record (heading_text
+      (front ++ more) used) { stage = S.Passing })
       l m failed waited []
       × Holds tells (record (heading_text (front ++ more) used) { stage = S.Passing }) m
   now_passing lacks some = (
@@ -192,7 +199,8 @@ module _ (tells : Bool) (front : List ℕ) (used : ℕ) (l m : Look) (more : Lis
         before = (front ++ more) ++ m.left;
         replaced = came_short front l m more (given tell) (told tell);
         moved = refl;
-        given = rest_by_length m.given [] (front ++ more) (came_given front l m more (given tell) (told tell));
+        given = rest_by_length m.given [] (front ++ more) (came_given front l m more (given tell)
+            (told tell));
         taken = (told tell).taken;
       };
       body = record {
@@ -232,7 +240,8 @@ module _ (tells : Bool) (front : List ℕ) (used : ℕ) (l m : Look) (more : Lis
       };
       body = record {
         stage = tt;
-        given = λ tell. body_is m.given (print_request h) [] behind (length (print_request h)) refl (has_now tell);
+        given = λ tell. body_is m.given (print_request h) [] behind (length (print_request h)) refl
+            (has_now tell);
         left = λ tell. tt;
         most = λ tell. body_fits tell;
       };
@@ -306,7 +315,8 @@ module _ (tells : Bool) (t : Text) (l m : Look) (more : List ℕ) (failed waited
   pub seeks_none : (t' : Text) → t' ≡ with_more t more → more ≡ [] → MovesTo tells t t' l m failed waited
   seeks_none t' is none =
       let front : t.front ++ more ≡ t.front = ap (λ x. t.front ++ x) none ∙ append-nil t.front in
-      front_to t' (subst (λ u. MovesTo tells (heading_text t.front t.used) u l m failed waited) (sym (is ∙ more_is))
+      front_to t' (subst (λ u. MovesTo tells (heading_text t.front t.used) u l m failed waited) (sym (is
+      ∙ more_is))
       (still_heading tells t.front t.used l m more failed waited calls writes sure from_front told
       (subst LacksUpload (sym front) heads.3) (subst (λ x. length x < head_limit) (sym front) heads.2)))
 
@@ -349,7 +359,8 @@ module _ (tells : Bool) (t : Text) (l m : Look) (more : List ℕ) (failed waited
           → MovesTo tells base t' l m failed waited
       decide S.Heading d =
           subst (λ u. MovesTo tells base u l m failed waited) (sym d.0)
-          (still_heading tells t.front t.used l m more failed waited calls writes sure from_front told d.1 d.2)
+          (still_heading tells t.front t.used l m more failed waited calls writes sure from_front told d.1
+          d.2)
       decide S.Passing d =
           subst (λ u. MovesTo tells base u l m failed waited) (sym d.0)
           (now_passing tells t.front t.used l m more failed waited calls writes sure from_front told
@@ -366,19 +377,23 @@ pub heading_holds : (tells : Bool) (t : Text) (l : Look) → t.stage ≡ S.Headi
 heading_holds tells t l stage holds = subst (λ s. HoldsText s t) stage holds.text
 
 -- bytes came, and it is known by them what is shown, or not yet
-pub filled_known : (tells : Bool) (t t1 t' : Text) (l m : Look) (n : ℕ) → t.stage ≡ S.Heading → Holds tells t l
+pub filled_known : (tells : Bool) (t t1 t' : Text) (l m : Look) (n : ℕ) → t.stage ≡ S.Heading
+    → Holds tells t l
     → FillsFrom tells t t1 l m (G.Bytes n) → Decides t1 t' t'.stage → MovesTo tells t t' l m false false
 filled_known tells t t1 t' l m n stage holds f decides =
     let r = f.reads in
-    seeks_more tells t l m (take n f.into) false false stage holds r.calls r.once.writes r.sure r.told t1 t' f.text
+    seeks_more tells t l m (take n f.into) false false stage holds r.calls r.once.writes r.sure r.told t1
+    t' f.text
     (omega (arith, r.fills.0, r.fills.1, length-take n f.into)) decides
 
 -- the client has ended
 pub filled_ended : (tells : Bool) (t t1 t' : Text) (l m : Look) → t.stage ≡ S.Heading → Holds tells t l
-    → FillsFrom tells t t1 l m G.End → t' ≡ record t1 { stage = S.Passing } → MovesTo tells t t' l m false false
+    → FillsFrom tells t t1 l m G.End → t' ≡ record t1 { stage = S.Passing }
+    → MovesTo tells t t' l m false false
 filled_ended tells t t1 t' l m stage holds f passes =
     let r = f.reads in
-    seeks_end tells t l m [] false false stage holds r.calls r.once.writes r.sure r.told t1 t' f.text passes refl r.ends
+    seeks_end tells t l m [] false false stage holds r.calls r.once.writes r.sure r.told t1 t' f.text
+    passes refl r.ends
 
 -- it waits
 pub filled_waits : (tells : Bool) (t t1 : Text) (l m : Look) → t.stage ≡ S.Heading → Holds tells t l

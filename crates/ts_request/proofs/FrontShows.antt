@@ -1,5 +1,6 @@
 -- What a front shows once it is known what that is, and how it hands the body of an upload over.
-use Rattle.std.proofs.Common.{◌≡◌, ◌≢◌, ℕ, ◌+◌, ◌-◌, ◌<◌, ◌≤◌, Bool, false, List, [], ◌++◌, length, take, drop, refl, sym, ap, subst, ◌∙◌, arith, append_assoc, length-append}
+use Rattle.std.proofs.Common.{◌≡◌, ◌≢◌, ℕ, ◌+◌, ◌-◌, ◌<◌, ◌≤◌, Bool, false, List, [], ◌++◌, length, take}
+use Rattle.std.proofs.Common.{drop, refl, sym, ap, subst, ◌∙◌, arith, append_assoc, length-append}
 use Rattle.std.proofs.lemmas.List.{append-nil, drop-drop, length-drop, nil_from_length}
 use Rattle.std.proofs.Math.Seq.{take-add}
 use Rattle.ts_lists.proofs.Fronts.{rest_by_length}
@@ -16,7 +17,8 @@ use Rattle.ts_request.specs.Upload.{HasUpload, LacksUpload}
 use Rattle.ts_request.specs.declared.stage.Stage.{Stage}
 use Rattle.ts_request.specs.declared.stage.Stage.TheVariants as S
 use Rattle.ts_request.proofs.LinkCalls.{calls_none, replace_none, replace_not, sure_none}
-use Rattle.ts_request.proofs.FrontMoves.{before_is, body_is, has_given, moved_on, moves_after, moves_none, piece_of}
+use Rattle.ts_request.proofs.FrontMoves.{before_is, body_is, has_given, moved_on, moves_after, moves_none}
+use Rattle.ts_request.proofs.FrontMoves.{piece_of}
 
 -- a text by its parts
 abbrev text_of : Stage → List ℕ → ℕ → ℕ → List ℕ → Text
@@ -26,9 +28,11 @@ text_of stage front shown used behind =
 -- ---- what waits is shown
 
 -- what is shown of the front of what waits, and what then waits
-module _ (front into : List ℕ) (shown count : ℕ) (copied : take count into ≡ take count (drop shown front)) where
+module _ (front into : List ℕ) (shown count : ℕ) (copied : take count into ≡ take count
+    (drop shown front)) where
   waits_on : drop shown front ≡ take count into ++ drop (shown + count) front
-  waits_on = piece_of (drop shown front) into (drop (shown + count) front) count copied (sym (drop-drop count shown front))
+  waits_on = piece_of (drop shown front) into (drop (shown + count) front) count copied (sym
+      (drop-drop count shown front))
 
   shown_on : take (shown + count) front ≡ take shown front ++ take count into
   shown_on = take-add shown count front ∙ ap (λ l. take shown front ++ l) (sym copied)
@@ -42,7 +46,8 @@ shows_waiting_by : (tells : Bool) (s : Stage) (front : List ℕ) (shown used : �
     → Moves tells (text_of s front shown used behind) (text_of s front (shown + count) used behind) l l
     false false (take count into)
     × Holds tells (text_of s front (shown + count) used behind) l
-shows_waiting_by tells S.Heading front shown used behind l into count known holds copied few = absurd (known refl)
+shows_waiting_by tells S.Heading front shown used behind l into count known holds copied few = absurd
+    (known refl)
 shows_waiting_by tells S.Passing front shown used behind l into count known holds copied few =
     let waits = waits_on front into shown count copied in (
       record {
@@ -121,12 +126,14 @@ shows_waiting tells t t' l into count known holds is copied few =
 -- where nothing waits, all that the client gave was shown
 pub all_shown : (t : Text) → waiting t ≡ [] → (given : List ℕ)
     → take (length given - length (waiting t)) given ≡ given
-all_shown t none given = rest_by_length given given (waiting t) (sym (append-nil given) ∙ ap (λ x. given ++ x) (sym none))
+all_shown t none given = rest_by_length given given (waiting t) (sym (append-nil given)
+    ∙ ap (λ x. given ++ x) (sym none))
 
 -- ---- the client is read on
 
 -- what was given and may still be stays, where it may not be replaced
-all_same : (l m : Look) (more : List ℕ) → (l.given ≡ [] → l.left ≡ []) → GivesMore l m more → all_of m ≡ all_of l
+all_same : (l m : Look) (more : List ℕ) → (l.given ≡ [] → l.left ≡ []) → GivesMore l m more
+    → all_of m ≡ all_of l
 all_same l m more some g =
     ap (λ x. x ++ m.left) g.given ∙ append_assoc l.given more m.left
     ∙ ap (λ x. l.given ++ x) (sym g.moved ∙ before_is l.given l.left g.before some g.replaced)
@@ -140,9 +147,17 @@ still_some l m more some g none =
     let empty = nil_from_length l.given none_before in
     let whole = ap length (all_same l m more some g) in
     let left = ap length (some empty) in
-    nil_from_length m.left (omega (arith, whole, left, none_before, length-append m.given m.left, length-append l.given l.left))
+    nil_from_length m.left (omega (
+      arith,
+      whole,
+      left,
+      none_before,
+      length-append m.given m.left,
+      length-append l.given l.left,
+    ))
 
-shows_client_by : (tells : Bool) (front : List ℕ) (shown used : ℕ) (behind : List ℕ) (l m : Look) (answer : Got)
+shows_client_by : (tells : Bool) (front : List ℕ) (shown used : ℕ) (behind : List ℕ) (l m : Look)
+    (answer : Got)
     (into : List ℕ) → drop shown front ≡ [] → Holds tells (text_of S.Passing front shown used behind) l
     → Reads tells l m answer into
     → Shows tells (text_of S.Passing front shown used behind) (text_of S.Passing front shown used behind) l m
@@ -177,7 +192,8 @@ shows_client_by tells front shown used behind l m answer into none holds reads =
         record {
           before = m.given;
           given = sym (append-nil m.given) ∙ ap (λ x. m.given ++ x) (sym none);
-          lacks = subst LacksUpload (sym (all_same l m (take (count_got answer) into) link.some g)) link.lacks;
+          lacks = subst LacksUpload (sym (all_same l m (take
+              (count_got answer) into) link.some g)) link.lacks;
           some = still_some l m (take (count_got answer) into) link.some g;
         };
   },
@@ -223,7 +239,8 @@ shows_after tells t u v l m n answer into moves shows = record {
 
 -- ---- the body is handed over
 
-hands_held_by : (tells : Bool) (framing : Framing) (front : List ℕ) (shown used : ℕ) (behind : List ℕ) (l : Look)
+hands_held_by : (tells : Bool) (framing : Framing) (front : List ℕ) (shown used : ℕ) (behind : List ℕ)
+    (l : Look)
     (into : List ℕ) (count : ℕ) → 1 ≤ count → count ≤ length into
     → take count into ≡ take count behind
     → Holds tells (text_of (S.Uploading framing) front shown used behind) l
@@ -275,7 +292,8 @@ hands_held_by tells framing front shown used behind l into count some fits copie
         → l.given ≡ print_request link.head ++ ((link.handed ++ take count into) ++ drop count behind)
     now link = link.has.begins.reads.1 ∙ ap (λ x. print_request link.head ++ x) (rest link)
 
-hands_client_by : (tells : Bool) (framing : Framing) (front : List ℕ) (shown used : ℕ) (l m : Look) (answer : Got)
+hands_client_by : (tells : Bool) (framing : Framing) (front : List ℕ) (shown used : ℕ) (l m : Look)
+    (answer : Got)
     (into : List ℕ) → Holds tells (text_of (S.Uploading framing) front shown used []) l
     → Reads tells l m answer into
     → ReadsBody tells (text_of (S.Uploading framing) front shown used [])
@@ -333,7 +351,8 @@ hands_client_by tells framing front shown used l m answer into holds reads = (
 
 -- some of what came with the head is handed over
 pub hands_held : (tells : Bool) (t t' : Text) (l : Look) (framing : Framing) (into : List ℕ) (count : ℕ)
-    → t.stage ≡ S.Uploading framing → 1 ≤ count → count ≤ length into → t' ≡ record t { behind = drop count t.behind }
+    → t.stage ≡ S.Uploading framing → 1 ≤ count → count ≤ length into
+    → t' ≡ record t { behind = drop count t.behind }
     → take count into ≡ take count t.behind → Holds tells t l
     → ReadsBody tells t t' l l (G.Bytes count) into × Holds tells t' l
 hands_held tells t t' l framing into count stage some fits is copied holds =
@@ -348,15 +367,18 @@ hands_held tells t t' l framing into count stage some fits is copied holds =
     (subst (λ u. Holds tells u l) text holds)))
 
 -- the client is read for the body, where all that came with the head was handed over
-pub hands_client : (tells : Bool) (t t' : Text) (l m : Look) (framing : Framing) (answer : Got) (into : List ℕ)
-    (count : ℕ) → t.stage ≡ S.Uploading framing → t.behind ≡ [] → t' ≡ record t { behind = drop count t.behind }
+pub hands_client : (tells : Bool) (t t' : Text) (l m : Look) (framing : Framing) (answer : Got)
+    (into : List ℕ)
+    (count : ℕ) → t.stage ≡ S.Uploading framing → t.behind ≡ []
+    → t' ≡ record t { behind = drop count t.behind }
     → Holds tells t l → Reads tells l m answer into
     → ReadsBody tells t t' l m answer into × Holds tells t' m
 hands_client tells t t' l m framing answer into count stage none is holds reads =
     let text : t ≡ text_of (S.Uploading framing) t.front t.shown t.used [] =
     λ i. text_of (stage i) t.front t.shown t.used (none i) in
     let dropped : drop count t.behind ≡ [] =
-    nil_from_length (drop count t.behind) (let long = ap length none in omega (arith, length-drop count t.behind)) in
+    nil_from_length (drop count t.behind) (let long = ap length none in omega
+    (arith, length-drop count t.behind)) in
     let text' : t' ≡ text_of (S.Uploading framing) t.front t.shown t.used [] =
     is ∙ (λ i. text_of (stage i) t.front t.shown t.used (dropped i)) in
     subst (λ u. ReadsBody tells u t' l m answer into × Holds tells t' m) (sym text)
@@ -367,7 +389,8 @@ hands_client tells t t' l m framing answer into count stage none is holds reads 
 
 -- ---- by what was copied
 
-nothing_waits : (list into into' : List ℕ) (count : ℕ) → Copies list into into' count → 0 < length into → count ≤ 0
+nothing_waits : (list into into' : List ℕ) (count : ℕ) → Copies list into into' count → 0 < length into
+    → count ≤ 0
     → list ≡ []
 nothing_waits list into into' count copies room none =
     nil_from_length list (omega (arith, copies.count_is))
@@ -394,7 +417,8 @@ waiting_shown tells t t' l into into' count gives some known holds =
 
 -- the end behind the head of an upload
 pub end_shown : (tells : Bool) (t t' : Text) (l : Look) (framing : Framing) (into into' : List ℕ) (count : ℕ)
-    → GivesFront t t' into into' count → count ≤ 0 → 0 < length into → t'.stage ≡ S.Uploading framing → Holds tells t l
+    → GivesFront t t' into into' count → count ≤ 0 → 0 < length into → t'.stage ≡ S.Uploading framing
+    → Holds tells t l
     → Shows tells t t' l l G.End into' × Holds tells t' l
 end_shown tells t t' l framing into into' count gives none room stage holds =
     let same = same_text t t' count none gives.text in
@@ -405,7 +429,8 @@ end_shown tells t t' l framing into into' count gives none room stage holds =
     )
 
 -- what the client gives, where there is no upload
-pub client_shown : (tells : Bool) (t t' : Text) (l m : Look) (answer : Got) (into into' last : List ℕ) (count : ℕ)
+pub client_shown : (tells : Bool) (t t' : Text) (l m : Look) (answer : Got) (into into' last : List ℕ)
+    (count : ℕ)
     → GivesFront t t' into into' count → count ≤ 0 → 0 < length into → t'.stage ≡ S.Passing → Holds tells t l
     → Reads tells l m answer last
     → Shows tells t t' l m answer last × Holds tells t' m
@@ -417,12 +442,14 @@ client_shown tells t t' l m answer into into' last count gives none room stage h
     (shows_client tells t' l m answer last stage waits (subst (λ u. Holds tells u l) (sym same) holds) reads)
 
 -- some of the body that came with the head
-pub behind_handed : (tells : Bool) (t t' : Text) (l : Look) (framing : Framing) (into into' : List ℕ) (count : ℕ)
+pub behind_handed : (tells : Bool) (t t' : Text) (l : Look) (framing : Framing) (into into' : List ℕ)
+    (count : ℕ)
     → HandsFront t t' into into' count → 0 < count → t.stage ≡ S.Uploading framing → Holds tells t l
     → ReadsBody tells t t' l l (G.Bytes count) into' × Holds tells t' l
 behind_handed tells t t' l framing into into' count hands some stage holds =
     let copies = hands.copies in
-    hands_held tells t t' l framing into' count stage (omega arith) (omega (arith, copies.count_is, copies.room))
+    hands_held tells t t' l framing into' count stage (omega arith) (omega
+    (arith, copies.count_is, copies.room))
     hands.text copies.bytes holds
 
 -- what the client gives of it

@@ -1,5 +1,6 @@
 -- The lines of a request's head that stay are the head without the fields that speak of its body.
-use Rattle.std.proofs.Common.{◌≡◌, ◌≢◌, ℕ, suc, ◌+◌, ◌≤◌, Bool, true, false, cond, List, [], ◌∷◌, ◌++◌, length, take, refl, sym, ap, subst, ◌∙◌, arith, append_assoc, length-append}
+use Rattle.std.proofs.Common.{◌≡◌, ◌≢◌, ℕ, suc, ◌+◌, ◌≤◌, Bool, true, false, cond, List, [], ◌∷◌, ◌++◌}
+use Rattle.std.proofs.Common.{length, take, refl, sym, ap, subst, ◌∙◌, arith, append_assoc, length-append}
 use Rattle.std.specs.Prelude.{All, IsTrue, codes, bytes_eq, not, ◌||◌, ◌==◌, filter, flat_map}
 use Rattle.std.specs.Char.{to_ascii_lowercase}
 use Rattle.std.specs.List.{before_first, list_any, prefix_len}
@@ -11,7 +12,9 @@ use Rattle.std.proofs.lemmas.Slice.Eq.{bytes_eq-Decides}
 use Rattle.http_header.specs.Token.{lowercase}
 use Rattle.httparse.specs.Ascii.{colon, line_feed, space}
 use Rattle.httparse.specs.Grammar as grammar
-use Rattle.httparse.specs.Grammar.{IsField, IsRequestHead, LineEnd, crlf, is_token_byte, is_uri_byte, is_value_byte, lf, print_blank, print_end, print_field, print_request, print_section, print_version}
+use Rattle.httparse.specs.Grammar.{IsField, IsRequestHead, LineEnd, crlf, is_token_byte, is_uri_byte}
+use Rattle.httparse.specs.Grammar.{is_value_byte, lf, print_blank, print_end, print_field, print_request}
+use Rattle.httparse.specs.Grammar.{print_section, print_version}
 use Rattle.httparse.proofs.GrammarLemmas.{cons-append, print_request-append}
 use Rattle.httparse.proofs.PieceLemmas.{colon_ends_token}
 use Rattle.ts_request.specs.Lines.{is_colon, is_line_feed, kept_from, kept_line, kept_lines}
@@ -41,7 +44,8 @@ token_lacks_colon bytes pass = lacks_failing is_token_byte colon bytes colon_end
 -- ---- the lines that stay, line by line
 
 -- bytes without a line feed are part of one line
-kept_run : (line xs rest : List ℕ) → Lacks line_feed xs → kept_from line (xs ++ rest) ≡ kept_from (line ++ xs) rest
+kept_run : (line xs rest : List ℕ) → Lacks line_feed xs → kept_from line (xs ++ rest) ≡ kept_from
+    (line ++ xs) rest
 kept_run line [] rest none = ap (λ l. kept_from l rest) (sym (append-nil line))
 kept_run line (x ∷ xs) rest none =
     let other : is_line_feed x ≡ false = ne_eqb x line_feed (All-head (λ c. c ≢ line_feed) x xs none) in
@@ -58,7 +62,8 @@ kept_first xs crlf rest none =
     let returned : List ℕ = 13 ∷ [] in
     ap kept_lines (sym (append_assoc xs returned (line_feed ∷ rest)))
     ∙ kept_run [] (xs ++ returned) (line_feed ∷ rest) (All-append (λ c. c ≢ line_feed) xs returned none
-    (All-cons (λ c. c ≢ line_feed) 13 [] (λ wrong. absurd (omega (arith, wrong))) (All-nil (λ c. c ≢ line_feed))))
+    (All-cons (λ c. c ≢ line_feed) 13 [] (λ wrong. absurd (omega (arith, wrong))) (All-nil
+    (λ c. c ≢ line_feed))))
     ∙ ap (λ l. kept_line l ++ kept_lines rest) (append_assoc xs returned (line_feed ∷ []))
 
 -- an empty line stays
@@ -125,7 +130,8 @@ fields_kept (f ∷ fs) tail good =
     ∙ ap (λ l. cond (stays f) (print_field f) [] ++ l) (fields_kept fs tail (All-tail IsField f fs good))
     ∙ join (stays f)
   where
-    join : (b : Bool) → cond b (print_field f) [] ++ (flat_map print_field (filter stays fs) ++ kept_lines tail)
+    join : (b : Bool) → cond b (print_field f) [] ++ (flat_map print_field
+        (filter stays fs) ++ kept_lines tail)
         ≡ flat_map print_field (cond b (f ∷ filter stays fs) (filter stays fs)) ++ kept_lines tail
     join true = sym (append_assoc (print_field f) (flat_map print_field (filter stays fs)) (kept_lines tail))
     join false = refl
@@ -191,7 +197,8 @@ start_stays h good =
     let line = start_line h ++ print_end h.line_end in
     let after = (h.target ++ (space ∷ print_version h.minor)) ++ print_end h.line_end in
     let none = All-append (λ c. c ≢ colon) h.method (space ∷ []) (token_lacks_colon h.method good.method.1)
-    (All-cons (λ c. c ≢ colon) space [] (λ wrong. absurd (omega (arith, wrong))) (All-nil (λ c. c ≢ colon))) in
+    (All-cons (λ c. c ≢ colon) space [] (λ wrong. absurd (omega (arith, wrong))) (All-nil
+    (λ c. c ≢ colon))) in
     let parts : line ≡ (h.method ++ space ∷ []) ++ after = simp (append_assoc, cons-append) in
     let name : before_first is_colon line ≡ h.method ++ space ∷ before_first is_colon after =
     ap (before_first is_colon) parts ∙ before_run (h.method ++ space ∷ []) after none
@@ -223,7 +230,8 @@ strips_head h good =
     let last = print_end h.last in
     ap kept_lines (head_parts h)
     ∙ kept_blank h.blank (start_line h ++ (print_end h.line_end ++ (fields ++ last)))
-    ∙ ap (λ l. print_blank h.blank ++ l) (kept_first (start_line h) h.line_end (fields ++ last) (start_lacks h good)
+    ∙ ap (λ l. print_blank h.blank ++ l) (kept_first (start_line h) h.line_end (fields ++ last)
+    (start_lacks h good)
     ∙ ap (λ l. l ++ kept_lines (fields ++ last)) (start_stays h good)
     ∙ append_assoc (start_line h) (print_end h.line_end) (kept_lines (fields ++ last))
     ∙ ap (λ l. start_line h ++ (print_end h.line_end ++ l)) (fields_kept h.fields last good.fields
@@ -256,11 +264,13 @@ longer : (x y z f g l : List ℕ) → length f ≤ length g
     → length (x ++ (y ++ (z ++ (f ++ l)))) ≤ length (x ++ (y ++ (z ++ (g ++ l))))
 longer x y z f g l short = simp length-append (omega arith)
 
-pub stripped_short : (h : grammar.RequestHead) → length (print_request (without_body h)) ≤ length (print_request h)
+pub stripped_short : (h : grammar.RequestHead) → length (print_request (without_body h)) ≤ length
+    (print_request h)
 stripped_short h =
     subst (λ w. length w ≤ length (print_request h)) (sym (head_parts (without_body h)))
     (subst (λ w. length (print_blank h.blank ++ (start_line h
-    ++ (print_end h.line_end ++ (flat_map print_field (filter stays h.fields) ++ print_end h.last)))) ≤ length w)
+    ++ (print_end h.line_end ++ (flat_map print_field
+    (filter stays h.fields) ++ print_end h.last)))) ≤ length w)
     (sym (head_parts h))
     (longer (print_blank h.blank) (start_line h) (print_end h.line_end)
     (flat_map print_field (filter stays h.fields)) (flat_map print_field h.fields) (print_end h.last)

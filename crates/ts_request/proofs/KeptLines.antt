@@ -1,8 +1,10 @@
 -- How the lines of a head that stay are put together in their room, line by line.
-use Rattle.std.proofs.Common.{◌≡◌, ℕ, suc, ◌+◌, ◌-◌, ◌<◌, ◌≤◌, true, false, cond, List, [], ◌∷◌, ◌++◌, length, take, drop, min, refl, sym, ap, subst, ◌∙◌, arith, append_assoc}
+use Rattle.std.proofs.Common.{◌≡◌, ℕ, suc, ◌+◌, ◌-◌, ◌<◌, ◌≤◌, true, false, cond, List, [], ◌∷◌, ◌++◌, length}
+use Rattle.std.proofs.Common.{take, drop, min, refl, sym, ap, subst, ◌∙◌, arith, append_assoc}
 use Rattle.std.specs.Prelude.{not}
 use Rattle.std.specs.List.{copy_within, position_or_len, slice_range}
-use Rattle.std.proofs.lemmas.List.{append-nil, drop-drop, drop_all, drop-take, length-drop, length-take, take-take}
+use Rattle.std.proofs.lemmas.List.{append-nil, drop-drop, drop_all, drop-take, length-drop, length-take}
+use Rattle.std.proofs.lemmas.List.{take-take}
 use Rattle.std.proofs.lemmas.List.Edits.{drop-paste, take-paste}
 use Rattle.ts_lists.proofs.Cases.{split}
 use Rattle.ts_request.specs.Lines.{is_line_feed, kept_from, kept_line, kept_lines, line_stays}
@@ -29,11 +31,13 @@ kept_one line (b ∷ []) some =
     first n = omega arith
 kept_one line (b ∷ c ∷ bytes) some =
     split (is_line_feed b)
-    (λ t. cond t (kept_line (line ++ b ∷ []) ++ kept_from [] (c ∷ bytes)) (kept_from (line ++ b ∷ []) (c ∷ bytes))
+    (λ t. cond t (kept_line (line ++ b ∷ []) ++ kept_from [] (c ∷ bytes)) (kept_from (line ++ b ∷ [])
+    (c ∷ bytes))
     ≡ at (min (suc (length (c ∷ bytes))) (cond (not t) (1 + position_or_len is_line_feed (c ∷ bytes)) 0 + 1)))
     (λ ends. ap at ends_here)
     (λ not_ends. kept_one (line ++ b ∷ []) (c ∷ bytes) (omega arith)
-    ∙ ap (λ l. kept_line l ++ kept_lines (drop n (c ∷ bytes))) (append_assoc line (b ∷ []) (take n (c ∷ bytes)))
+    ∙ ap (λ l. kept_line l ++ kept_lines (drop n (c ∷ bytes))) (append_assoc line (b ∷ []) (take n
+    (c ∷ bytes)))
     ∙ ap at goes_on)
   where
     n : ℕ
@@ -55,8 +59,8 @@ rest_on xs ys m n le same =
     ap (λ j. drop j xs) (sym k) ∙ sym (drop-drop (n - m) m xs) ∙ ap (drop (n - m)) same
     ∙ drop-drop (n - m) m ys ∙ ap (λ j. drop j ys) k
 
--- Of the first `used` bytes of a room that was so at first, the lines before `at` that stay stand at its front;
--- those from there on are as they were.
+-- Of the first `used` bytes of a room that was so at first, the lines before `at` that stay stand at its
+-- front; those from there on are as they were.
 pub record LinesKept (used : ℕ) (first room : List ℕ) (kept at : ℕ) : Type 0 where
   pub lines : take kept room ++ kept_lines (drop at (take used first)) ≡ kept_lines (take used first)
   pub behind : drop at room ≡ drop at first
@@ -87,7 +91,8 @@ kept_end used first room kept at fits all kept_so =
 
 -- one line more was looked at
 module _ (used : ℕ) (first room : List ℕ) (kept at end : ℕ) (fits : used ≤ length first) (more : at < used)
-    (so_far : LinesKept used first room kept at) (end_is : end ≡ at + line_len (slice_range room at used)) where
+    (so_far : LinesKept used first room kept at) (end_is : end ≡ at + line_len
+    (slice_range room at used)) where
   abbrev rest : List ℕ
   rest = drop at (take used first)
 
@@ -130,7 +135,8 @@ module _ (used : ℕ) (first room : List ℕ) (kept at end : ℕ) (fits : used �
       → kept' ≤ kept + (end - at) → length new ≡ length room → LinesKept used first new kept' end
   line_more new kept' front behind short len = record {
     lines = ap (λ l. l ++ kept_lines (drop end (take used first))) front
-        ∙ append_assoc (take kept room) (kept_line (slice_range room at end)) (kept_lines (drop end (take used first)))
+        ∙ append_assoc (take kept room) (kept_line (slice_range room at end)) (kept_lines (drop end
+        (take used first)))
         ∙ ap (λ l. take kept room ++ l) (sym parts) ∙ so_far.lines;
     behind = behind ∙ rest_on room first at end (omega (arith, some)) so_far.behind;
     kept_within = omega (arith, so_far.kept_within, some, short);
@@ -148,7 +154,8 @@ line_goes room at end kept goes =
     ∙ ap (λ b. take kept room ++ cond b (slice_range room at end) []) (sym goes)
 
 -- it stays, and is copied
-module _ (room new : List ℕ) (at end kept : ℕ) (before : kept ≤ at) (ordered : at ≤ end) (fits : end ≤ length room)
+module _ (room new : List ℕ) (at end kept : ℕ) (before : kept ≤ at) (ordered : at ≤ end)
+    (fits : end ≤ length room)
     (is : new ≡ copy_within room at end kept) where
   inside : kept ≤ length room
   inside = omega arith

@@ -1,9 +1,11 @@
 -- Calls of a link, one after the other: what is told of each is told of both.
-use Rattle.std.proofs.Common.{◌≡◌, ◌≢◌, ℕ, ◌<◌, ◌≤◌, Bool, true, false, List, [], ◌∷◌, ◌++◌, length, Option, Some, None, refl, sym, ap, subst, ◌∙◌, arith}
+use Rattle.std.proofs.Common.{◌≡◌, ◌≢◌, ℕ, ◌<◌, ◌≤◌, Bool, true, false, List, [], ◌∷◌, ◌++◌, length, Option}
+use Rattle.std.proofs.Common.{Some, None, refl, sym, ap, subst, ◌∙◌, arith}
 use Rattle.std.specs.Prelude.{IsSomeAnd}
 use Rattle.std.proofs.lemmas.List.{append-nil}
 use Rattle.ts_link.specs.Counts.{Counted}
-use Rattle.ts_link.specs.Link.{AgainsFall, Calls, GivesMore, IsSurePlan, Look, MayReplace, NoMore, Plan, ReadsSurely}
+use Rattle.ts_link.specs.Link.{AgainsFall, Calls, GivesMore, IsSurePlan, Look, MayReplace, NoMore, Plan}
+use Rattle.ts_link.specs.Link.{ReadsSurely}
 
 -- ---- what a link may still give
 
@@ -13,12 +15,14 @@ replace_none [] left = omega arith
 replace_none (b ∷ bs) left = refl
 
 -- in no case it gets longer
-pub replace_short : (given before after : List ℕ) → MayReplace given before after → length after ≤ length before
+pub replace_short : (given before after : List ℕ) → MayReplace given before after
+    → length after ≤ length before
 replace_short [] before after may = may
 replace_short (b ∷ bs) before after may = let e = ap length may in omega arith
 
 -- it stays where something was given
-pub replace_not : (given before after : List ℕ) → 0 < length given → MayReplace given before after → after ≡ before
+pub replace_not : (given before after : List ℕ) → 0 < length given → MayReplace given before after
+    → after ≡ before
 replace_not [] before after some may = absurd (omega (arith, some))
 replace_not (b ∷ bs) before after some may = may
 

@@ -7,10 +7,11 @@ use Rattle.ts_request.specs.Upload.{HasUpload, LacksUpload, NeverHasUpload}
 use Rattle.ts_request.specs.declared.finding.Found.{Found}
 use Rattle.ts_request.specs.declared.finding.Found.TheVariants as F
 
--- what was found is so: with more bytes there may be an upload; there is none, whatever follows; or there is one,
--- whose head has so many bytes
+-- what was found is so: with more bytes there may be an upload; there is none, whatever follows; or there is
+-- one, whose head has so many bytes
 abbrev pub IsFound : List ℕ → Found → Type 0
 IsFound bytes F.More = LacksUpload bytes × (length bytes < head_limit)
 IsFound bytes F.Never = NeverHasUpload bytes
 IsFound bytes (F.Upload framing used) =
-    (h : grammar.RequestHead) × HasUpload bytes h framing (drop used bytes) × (used ≡ length (print_request h))
+    (h : grammar.RequestHead) × HasUpload bytes h framing (drop used bytes)
+    × (used ≡ length (print_request h))

@@ -108,8 +108,8 @@ pub record Holds (tells : Bool) (t : Text) (l : Look) : Type 0 where
 
 -- ---- what is known of the client's bytes, all that it gave and may still give, and of what is shown of them
 
--- Until the head of the request is known, that is all of them. From then on it is what `Strips` says, and of an
--- upload, what was handed over and may still be is all that follows the head.
+-- Until the head of the request is known, that is all of them. From then on it is what `Strips` says, and of
+-- an upload, what was handed over and may still be is all that follows the head.
 abbrev pub IsShown : Stage → List ℕ → List ℕ → List ℕ → Type 0
 IsShown S.Heading c shown body = shown ≡ c
 IsShown S.Passing c shown body = LacksUpload c × (shown ≡ c)
@@ -151,8 +151,8 @@ pub record FrontGoes {C : Type 0} (client_link : link.Ghosts C) (f g : FrontSeen
 abbrev pub FrontStill : {C : Type 0} → link.Ghosts C → FrontSeen C → FrontSeen C → Type 0
 FrontStill client_link f g = client_link.still f.client g.client
 
--- What some reads of the client lead to, the last of which failed or waited or did neither: the front has shown
--- so much more.
+-- What some reads of the client lead to, the last of which failed or waited or did neither: the front has
+-- shown so much more.
 pub record Moves (tells : Bool) (t t' : Text) (l l' : Look) (failed waited : Bool) (more : List ℕ) :
     Type 0 where
   pub calls : Calls l l' failed waited

@@ -12,7 +12,8 @@ pub record FillsFrom (tells : Bool) (t t' : Text) (l l' : Look) (answer : Got) :
   pub text : t' ≡ with_more t (take (count_got answer) into)
 
 -- one read of the client into the room behind its first `kept` bytes
-pub record ReadsBehind (tells : Bool) (kept : ℕ) (room room' : List ℕ) (l l' : Look) (answer : Got) : Type 0 where
+pub record ReadsBehind (tells : Bool) (kept : ℕ) (room room' : List ℕ) (l l' : Look)
+    (answer : Got) : Type 0 where
   pub into : List ℕ
   pub reads : Reads tells l l' answer into
   pub room_is : room' ≡ take kept room ++ into

@@ -16,12 +16,13 @@ abbrev pub sent_framing : Framing → List TransformLine → ClientFraming
 sent_framing (F.Sized n) [] = C.Sized n
 sent_framing framing lines = C.Chunked
 
--- the origin's head: that of the request as the transaction sends it, with one line more before its last CR LF
+-- the origin's head: that of the request as the transaction sends it, with one line more before its last CR
+-- LF
 abbrev pub sent_head : Framing → List TransformLine → List ℕ → List ℕ
 sent_head framing lines request = with_framing request (sent_framing framing lines)
 
--- What is refused of a client whose bytes are these, and then their end: an upload whose body is cut or bad, and
--- on which no line finished early.
+-- What is refused of a client whose bytes are these, and then their end: an upload whose body is cut or bad,
+-- and on which no line finished early.
 pub record RefusesUpload (lines : List TransformLine) (c : List ℕ) : Type 0 where
   pub framing : Framing
   pub body : List ℕ

@@ -7,8 +7,8 @@ use Rattle.ts_request.specs.Upload.{HasUpload, LacksUpload, NeverHasUpload, with
 use Rattle.ts_request.specs.declared.stage.Stage.{Stage}
 use Rattle.ts_request.specs.declared.stage.Stage.TheVariants as S
 
--- What is held. Until its request's head is known, and where there is no upload, `front` is all that came and is
--- held; of an upload it is the head as it is shown.
+-- What is held. Until its request's head is known, and where there is no upload, `front` is all that came and
+-- is held; of an upload it is the head as it is shown.
 pub record Text : Type 0 where
   pub stage : Stage
   pub front : List ℕ

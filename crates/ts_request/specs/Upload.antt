@@ -28,8 +28,8 @@ LacksUpload c =
 abbrev pub NeverHasUpload : List ℕ → Type 0
 NeverHasUpload c = (more : List ℕ) → LacksUpload (c ++ more)
 
--- The upload of a client whose bytes are these, and then their end: how it is framed, its body so far, and how
--- far that is. One that is Unfinished is cut.
+-- The upload of a client whose bytes are these, and then their end: how it is framed, its body so far, and
+-- how far that is. One that is Unfinished is cut.
 pub record IsUpload (c : List ℕ) (framing : Framing) (body : List ℕ) (state : BodyState) : Type 0 where
   pub head : grammar.RequestHead
   pub rest : List ℕ
@@ -50,8 +50,8 @@ stays f = not (speaks_of_body (lowercase f.name))
 abbrev pub without_body : grammar.RequestHead → grammar.RequestHead
 without_body h = record h { fields = filter stays h.fields }
 
--- What is shown of a client's bytes: of a request with an upload the head alone, in its own bytes, without the
--- lines that speak of the body; and of any other all of them, as they are.
+-- What is shown of a client's bytes: of a request with an upload the head alone, in its own bytes, without
+-- the lines that speak of the body; and of any other all of them, as they are.
 pub data Strips (c shown : List ℕ) : Type 0 where
   upload : (h : grammar.RequestHead) (framing : Framing) (rest : List ℕ) → HasUpload c h framing rest
       → shown ≡ print_request (without_body h) → Strips c shown

@@ -1,12 +1,14 @@
-//! The front of a client: a link that shows the head of a request with an upload without the lines that speak of
-//! its body, and hands the body over apart.
+//! The front of a client: a link that shows the head of a request with an upload without the lines that speak
+//! of its body, and hands the body over apart.
 ghost use Rattle.std.specs.Prelude.{◌≡◌, ◌≢◌, ◌<◌, [], length, true, refl, IfOk};
 ghost use Rattle.std.proofs.Common.{◌∙◌};
 ghost use Rattle.ts_link.specs.Link.{all_of};
-ghost use Rattle.ts_request.specs.Front.{FrontGoes, FrontStill, ReadsBody, ShowsClient, front_look, fresh_front};
+ghost use Rattle.ts_request.specs.Front.{FrontGoes, FrontStill, ReadsBody, ShowsClient, front_look};
+ghost use Rattle.ts_request.specs.Front.{fresh_front};
 ghost use Rattle.ts_request.specs.Laws.{keeps_body, keeps_body_on};
 ghost use Rattle.ts_request.specs.Upload.{Strips};
-ghost use Rattle.ts_upstream.specs.Uploads.{StayPaired, UploadCauses, UploadFalls, UploadKeeps, Uploads, UploadsSurely, both};
+ghost use Rattle.ts_upstream.specs.Uploads.{StayPaired, UploadCauses, UploadFalls, UploadKeeps, Uploads};
+ghost use Rattle.ts_upstream.specs.Uploads.{UploadsSurely, both};
 ghost use Rattle.ts_link.specs.Link.{IsSure};
 ghost use Rattle.ts_wire.specs.declared.framing.Framing.{Framing};
 
@@ -19,8 +21,8 @@ use ts_link::{Got, Link, NoMemory, Put};
 use ts_upstream::{Uploaded, Upstream};
 
 /// The front of a client. Of a request with an upload it shows the head without its Content-Length,
-/// Transfer-Encoding and Expect lines, and then the end; of any other all that the client gives, as it is. What
-/// is written to it is written to the client.
+/// Transfer-Encoding and Expect lines, and then the end; of any other all that the client gives, as it is.
+/// What is written to it is written to the client.
 #[derive(Drop)]
 pub struct Front<C: Link> {
     client: C,
@@ -41,8 +43,8 @@ impl<C: Link> Model for Front<C> {
 }
 
 impl<C: Link + Drop> Front<C> {
-    /// A front of a client that gave nothing yet. It takes all the memory that it ever needs: the room of a head
-    /// of 16,384 bytes.
+    /// A front of a client that gave nothing yet. It takes all the memory that it ever needs: the room of a
+    /// head of 16,384 bytes.
     pub fn make(alloc: Global, client: C) -> Result<Front<C>, NoMemory>
         requires { C.tells ≡ true → (C.look client).given ≡ [] }
         ensures { IfOk result (λ f. f ≡ fresh_front client) }
@@ -69,7 +71,8 @@ impl<C: Link + Drop> Front<C> {
         &self.client
     }
 
-    /// What holds of every one whose client tells: what it shows of all that this one gave and may still give.
+    /// What holds of every one whose client tells: what it shows of all that this one gave and may still
+    /// give.
     pub fn known(&self)
         ensures shows { C.tells ≡ true → ShowsClient C.look self.now }
         ensures strips { C.tells ≡ true → self.now.text.stage ≢ Stage.Heading
@@ -78,8 +81,8 @@ impl<C: Link + Drop> Front<C> {
         let _ = &self.text;
     }
 
-    /// Reads the bytes that follow the head of a request with an upload into the room, which is not empty: first
-    /// those that came with the head, and then the client.
+    /// Reads the bytes that follow the head of a request with an upload into the room, which is not empty:
+    /// first those that came with the head, and then the client.
     pub fn read_body(&mut self, into: &mut [u8]) -> Got
         requires room { 0 < length into.old }
         requires uploading { (framing : Framing) × (self.old.text.stage ≡ Stage.Uploading framing) }

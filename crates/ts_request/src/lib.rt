@@ -1,5 +1,5 @@
-//! Request bodies: which requests have one that is passed on, what a transaction is shown of such a request, and
-//! how the body goes to the origin.
+//! Request bodies: which requests have one that is passed on, what a transaction is shown of such a request,
+//! and how the body goes to the origin.
 #![tactic(auto)]
 
 mod finding;

@@ -65,8 +65,8 @@ fn line_len(bytes: &[u8]) -> usize
     bytes.len().min(line_feed_place(bytes) + 1)
 }
 
-// Puts the line from `at` to `end` behind the first `kept` bytes of the room, if it stays, and says how many bytes
-// are kept then.
+// Puts the line from `at` to `end` behind the first `kept` bytes of the room, if it stays, and says how many
+// bytes are kept then.
 fn keep_line(room: &mut [u8], at: usize, end: usize, kept: usize) -> usize
     requires before { kept ≤ at }
     requires ordered { at ≤ end }
@@ -82,8 +82,8 @@ fn keep_line(room: &mut [u8], at: usize, end: usize, kept: usize) -> usize
     kept + (end - at)
 }
 
-// Puts the lines of the first `used` bytes that stay one behind the other at the front of the room, and says how
-// long they are.
+// Puts the lines of the first `used` bytes that stay one behind the other at the front of the room, and says
+// how long they are.
 pub(crate) fn keep_lines(room: &mut [u8], used: usize) -> usize
     requires { used ≤ length room.old }
     ensures kept { take result room.new ≡ kept_lines (take used room.old) }

@@ -101,7 +101,8 @@ pub(crate) fn read_upload<C: Link>(client: &mut C, text: &mut HeldText, into: &m
     requires room { 0 < length into.old }
     requires uploading { (framing : Framing) × (text.old.stage ≡ Stage.Uploading framing) }
     requires holds { Holds C.tells text.old (C.look client.old) }
-    ensures reads { ReadsBody C.tells text.old text.new (C.look client.old) (C.look client.new) result into.new }
+    ensures reads { ReadsBody C.tells text.old text.new (C.look client.old) (C.look client.new)
+        result into.new }
     ensures holds { Holds C.tells text.new (C.look client.new) }
     ensures goes { C.goes client.old client.new }
 {

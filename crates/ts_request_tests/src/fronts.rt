@@ -32,8 +32,8 @@ const ROWS: [(&[u8], &[u8], &[u8]); 14] = [
     ),
     // chunks behind an empty line, with lines that end in LF alone
     (
-        b"\r\nPUT /x HTTP/1.1\nhost: a\nEXPECT: 100-continue\nTransfer-Encoding:  Chunked\r\nB: :\n\n1\r\nz\r\n0\r\n\r\n",
-        b"\r\nPUT /x HTTP/1.1\nhost: a\nB: :\n\n",
+        b"\r\nPUT / HTTP/1.1\nhost: a\nEXPECT: 1\nTransfer-Encoding:  Chunked\r\nB: :\n\n1\r\nz\r\n0\r\n\r\n",
+        b"\r\nPUT / HTTP/1.1\nhost: a\nB: :\n\n",
         b"1\r\nz\r\n0\r\n\r\n",
     ),
     // three equal lengths in HTTP/1.0, without a Host

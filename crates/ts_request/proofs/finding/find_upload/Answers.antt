@@ -9,7 +9,8 @@ returns-in-Some c =
     let within = rw c.in-Ok-Complete.field-0-is at c.in-Ok-Complete.ensures.within in
     let ends = ap upload_of (sym (c.request_end.ensures some.0 some.1)) in (
       some.0,
-      upload_there c.args.bytes.now _ _ some.0 c.in-Some.framing c.requires c.parse_request.auto.headers within some.1
+      upload_there c.args.bytes.now _ _ some.0 c.in-Some.framing c.requires c.parse_request.auto.headers
+          within some.1
           (ends ∙ sym c.upload.ensures ∙ c.in-Some.is),
       some.1.len,
     )

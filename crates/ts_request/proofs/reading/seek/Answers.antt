@@ -1,6 +1,7 @@
 -- The head is read on while nothing is known of it.
 use Rattle.std.proofs.Common.{false, true, [], sym, ◌∙◌}
-use Rattle.ts_request.proofs.FrontMoves.{heading_falls, heading_holds, is_heading_stage, is_known_stage, moves_after, moves_none}
+use Rattle.ts_request.proofs.FrontMoves.{heading_falls, heading_holds, is_heading_stage, is_known_stage}
+use Rattle.ts_request.proofs.FrontMoves.{moves_after, moves_none}
 use Rattle.ts_request.proofs.reading.seek.Goals as goal
 
 pub head-init : goal.head-init

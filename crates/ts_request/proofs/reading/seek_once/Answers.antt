@@ -1,7 +1,8 @@
 -- Each answer of one read of the client for the head.
 use Rattle.std.proofs.Common.{ap, inl, ◌∙◌}
 use Rattle.ts_request.specs.Text.{Text}
-use Rattle.ts_request.proofs.FrontMoves.{filled_ended, filled_fails, filled_known, filled_on, filled_waits, heading_holds, passes_known}
+use Rattle.ts_request.proofs.FrontMoves.{filled_ended, filled_fails, filled_known, filled_on, filled_waits}
+use Rattle.ts_request.proofs.FrontMoves.{heading_holds, passes_known}
 use Rattle.ts_request.proofs.reading.seek_once.Goals as goal
 
 pub fill-requires-clause-room : goal.fill-requires-clause-room
@@ -45,7 +46,8 @@ returns-in-Bytes-clause-holds g c =
 pub returns-in-Bytes-clause-on : goal.returns-in-Bytes-clause-on
 returns-in-Bytes-clause-on g c =
     filled_on g.C.Link.tells c.args.text.now c.fill.new.self c.decide.new.self
-    (g.C.Link.look c.args.client.now) (g.C.Link.look c.fill.new.client) _ c.in-Bytes.ensures.fills c.decide.ensures
+    (g.C.Link.look c.args.client.now) (g.C.Link.look c.fill.new.client) _ c.in-Bytes.ensures.fills
+    c.decide.ensures
 
 pub returns-in-End-clause-moves : goal.returns-in-End-clause-moves
 returns-in-End-clause-moves g c =

@@ -10,4 +10,5 @@ returns-clause-shows g c =
 pub returns-clause-strips : goal.returns-clause-strips
 returns-clause-strips g c =
     rw (← c.self.view_is) (λ tell known. strips_shown c.self.inside.text.stage _ _ _ known
-    (knows_client g.C.Link.tells c.self.inside.text (g.C.Link.look c.self.inside.client) c.self.invariant tell))
+    (knows_client g.C.Link.tells c.self.inside.text
+    (g.C.Link.look c.self.inside.client) c.self.invariant tell))

@@ -18,5 +18,6 @@ returns-clause-goes g c =
       client = c.write.ensures.goes;
       source = c.write.ensures.writes.calls.source;
       body = writes_body g.C.Link.tells c.self.inside.text (g.C.Link.look c.self.inside.client)
-          (g.C.Link.look c.write.new.self) c.write.result c.args.piece.now c.self.invariant c.write.ensures.writes;
+          (g.C.Link.look c.write.new.self) c.write.result c.args.piece.now c.self.invariant
+          c.write.ensures.writes;
     })

@@ -45,7 +45,8 @@ returns-in-Upload c =
     let shown : x.shown ≡ 0 = ap (λ (u : Text). u.shown) c.self.view_is ∙ c.requires.shown in
     let has : HasUpload (take x.kept x.room.items) s.0 framing
     (slice_range (with_items x.room new).items used x.kept) =
-    subst (λ r. HasUpload (take x.kept x.room.items) s.0 framing (slice_range r used x.kept)) (sym same) s.1 in (
+    subst (λ r. HasUpload (take x.kept x.room.items) s.0 framing (slice_range r used x.kept))
+    (sym same) s.1 in (
       s.0,
       subst (λ f. HasUpload f s.0 framing (slice_range (with_items x.room new).items used x.kept))
           (ap (λ (u : Text). u.front) c.self.view_is) has,

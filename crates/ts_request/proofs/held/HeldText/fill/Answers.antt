@@ -13,7 +13,8 @@ returns-clause-fills g c =
     let room = c.read_behind-got.new.room.items in
     let reads = c.read_behind-got.ensures.reads in
     let within : x.kept ≤ length x.room.items = omega (arith, reads.long) in
-    let front : take (x.kept + c.count_of.result) room ≡ take x.kept x.room.items ++ take (count_got got) reads.into =
+    let front : take (x.kept + c.count_of.result) room ≡ take x.kept x.room.items ++ take
+    (count_got got) reads.into =
     ap (λ k. take (x.kept + k) room) c.count_of.ensures ∙ ap (take (x.kept + count_got got)) reads.room_is
     ∙ front_more x.room.items reads.into x.kept (count_got got) within in
     let none : slice_range x.room.items x.from x.to ≡ [] =
