@@ -1,8 +1,17 @@
+pub mod Begun
+pub mod BodyWay
+pub mod Carried
+pub mod CarrierLaws
+pub mod Carrying
+pub mod Delivered
 pub mod Finding
 pub mod Front
 pub mod Held
 pub mod Laws
 pub mod Lines
+pub mod Making
+pub mod Pairing
+pub mod PassageSteps
 pub mod Seeking
 pub mod Sent
 pub mod Text
