@@ -1,7 +1,7 @@
 -- A step that lets the origin inside move some of an upload of its own.
-use Rattle.std.proofs.Common.{◌≡◌, ◌≢◌, ℕ, ◌+◌, ◌*◌, ◌-◌, ◌≤◌, ◌<◌, ◌⊎◌, inl, inr, List, [], ◌++◌, length, take, drop, Bool, true, false, refl, sym, ap, subst, ◌∙◌, arith, append_assoc}
-use Rattle.std.specs.Prelude.{IsSomeAnd, Option, Some, None, ⊤, if◌then◌else◌}
-use Rattle.std.proofs.lemmas.Bool.{false≢true, true≢false}
+use Rattle.std.proofs.Common.{◌≡◌, ℕ, ◌+◌, ◌≤◌, ◌⊎◌, inl, inr, List, [], ◌++◌, length, Bool, true, false, refl, sym, ap, subst, ◌∙◌, arith, append_assoc}
+use Rattle.std.specs.Prelude.{Option, Some, None}
+use Rattle.std.proofs.lemmas.Bool.{false≢true}
 use Rattle.std.proofs.lemmas.List.{append-nil, append_cancel_left}
 use Rattle.ts_config.specs.declared.setup.TransformLine.{TransformLine}
 use Rattle.ts_link.specs.Link.{Fewer, IsSurePlan, Look, NoMore, all_of}
@@ -12,12 +12,12 @@ use Rattle.ts_upstream.specs.declared.upstream.Uploaded.{Uploaded}
 use Rattle.ts_upstream.specs.declared.upstream.Uploaded.TheVariants as U
 use Rattle.ts_upstream.specs.declared.upstream.Upstream as upstream
 use Rattle.ts_request.specs.Begun.{IsBegun}
-use Rattle.ts_request.specs.BodyWay.{to_come, write_cost}
+use Rattle.ts_request.specs.BodyWay.{to_come}
 use Rattle.ts_request.specs.Carried.{UploadsStep, answer_asked, is_done}
 use Rattle.ts_request.specs.Carrying.{behind_head, carrier_look, look_over, request_lines, stays_plan, without_line}
 use Rattle.ts_request.specs.Front.{FrontSeen, body_given_by, body_left_by, body_most, body_most_by, front_look, given_by, left_by}
-use Rattle.ts_request.specs.Pairing.{CarrierPair, CarrierRefuses, HoldsBack, SendsBody, SendsPlain, StandsFirst, WayBy, all_sent, carrier_left, handed_of, left_if, own_of, source_of, way_left, work_left}
-use Rattle.ts_request.specs.Sent.{RefusesUpload, sent_framing, sent_head}
+use Rattle.ts_request.specs.Pairing.{CarrierPair, CarrierRefuses, StandsFirst, WayBy, all_sent, carrier_left, handed_of, left_if, own_of, source_of, work_left}
+use Rattle.ts_request.specs.Sent.{sent_framing, sent_head}
 use Rattle.ts_request.specs.Text.{Text}
 use Rattle.ts_request.specs.Upload.{LacksUpload}
 use Rattle.ts_request.specs.declared.carrier.Carrier.{Carrier}

@@ -1,14 +1,12 @@
 -- An upload begins: the head gets its framing line, and the body sets out.
-use Rattle.std.proofs.Common.{◌≡◌, ◌≢◌, ℕ, ◌+◌, ◌*◌, ◌-◌, ◌≤◌, ◌<◌, ◌⊎◌, inl, inr, List, [], ◌∷◌, ◌++◌, length, take, drop, map, Bool, true, false, refl, sym, ap, subst, ◌∙◌, arith, append_assoc, length-append}
-use Rattle.std.specs.Prelude.{All, Option, Some, None, filter, if◌then◌else◌, ⊤}
-use Rattle.std.proofs.Math.Nat.{le_trans}
-use Rattle.std.proofs.lemmas.Bool.{false≢true, true≢false}
+use Rattle.std.proofs.Common.{◌≡◌, ℕ, ◌+◌, ◌*◌, ◌-◌, ◌≤◌, List, [], ◌∷◌, ◌++◌, length, take, drop, map, Bool, true, false, refl, sym, ap, subst, ◌∙◌, arith, length-append}
+use Rattle.std.specs.Prelude.{Option, Some, None}
+use Rattle.std.proofs.lemmas.Bool.{true≢false}
 use Rattle.std.proofs.lemmas.List.{append-nil, length-map, take-append-drop}
 use Rattle.std.proofs.lemmas.List.Elements.{All-nil}
 use Rattle.httparse.specs.Ascii.{crlf_bytes}
 use Rattle.ts_config.specs.declared.setup.TransformLine.{TransformLine}
-use Rattle.ts_config.specs.Bodies.{compose_lines, so_far}
-use Rattle.ts_link.specs.Link.{Look, NoMore}
+use Rattle.ts_link.specs.Link.{NoMore}
 use Rattle.ts_link.specs.declared.link.Link as link
 use Rattle.ts_passing.specs.Inserted.{AllChangeNoMore, AreOfLines}
 use Rattle.ts_passing.specs.Lines.{lines_length, passes}
@@ -16,13 +14,12 @@ use Rattle.ts_passing.specs.Sends.{Sends}
 use Rattle.ts_passing.proofs.Early.{behind_none}
 use Rattle.ts_passing.proofs.InsertedStages.{fresh_changes, fresh_work}
 use Rattle.ts_passing.proofs.Parting.{compose_of_lines, soon_of_lines}
-use Rattle.ts_transform.specs.Flow.{ChainState, fresh_stage, left_to_do, passing, soon_flow}
+use Rattle.ts_transform.specs.Flow.{fresh_stage, left_to_do, passing, soon_flow}
 use Rattle.ts_transform.specs.declared.pump.Stage.{Stage}
 use Rattle.ts_transform.specs.declared.transform.Transform as transform
 use Rattle.ts_upstream.specs.declared.upstream.Upstream as upstream
 use Rattle.ts_wire.specs.Limits.{framing_limit}
 use Rattle.ts_wire.specs.Printed.{framing_line, with_framing}
-use Rattle.ts_wire.specs.declared.body.BodyState.{BodyState}
 use Rattle.ts_wire.specs.declared.body.BodyState.TheVariants as B
 use Rattle.ts_wire.specs.declared.framing.Framing.{Framing}
 use Rattle.ts_wire.specs.declared.frames.Mode.{Mode}
@@ -30,12 +27,12 @@ use Rattle.ts_wire.specs.declared.printed.ClientFraming.{ClientFraming}
 use Rattle.ts_wire.specs.Frames.{IsPiece}
 use Rattle.ts_wire.specs.Place.{state_of}
 use Rattle.ts_wire.proofs.ShortLines.{framing_short}
-use Rattle.ts_request.specs.BodyWay.{Passes, Writes, end_cost, mode_said, more_comes, pass_cost, passage_left, to_come, to_read, write_cost}
+use Rattle.ts_request.specs.BodyWay.{Passes, Writes, mode_said, more_comes, passage_left, to_come, to_read}
 use Rattle.ts_request.specs.Begun.{Begins}
 use Rattle.ts_request.specs.Carrying.{behind_head, carrier_look, look_over, request_lines, without_line}
 use Rattle.ts_request.specs.Front.{FrontSeen, body_most}
 use Rattle.ts_request.specs.Making.{IsFreshPassage}
-use Rattle.ts_request.specs.Pairing.{CarrierPair, HoldsBack, SendsBody, SendsPlain, StandsFirst, WayBy, all_sent, carrier_left, fresh_left, handed_of, held_left, left_if, own_of, source_of, way_left, work_left}
+use Rattle.ts_request.specs.Pairing.{CarrierPair, HoldsBack, StandsFirst, WayBy, all_sent, carrier_left, fresh_left, held_left, own_of, source_of, way_left, work_left}
 use Rattle.ts_request.specs.Sent.{sent_framing, sent_head}
 use Rattle.ts_request.specs.Upload.{LacksUpload}
 use Rattle.ts_request.specs.declared.carrier.Carrier.{Carrier}

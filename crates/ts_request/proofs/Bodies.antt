@@ -1,19 +1,17 @@
 -- The steps of a body's way that call no link: a piece is framed, a stage works, the end is framed, a block is fed.
-use Rattle.std.proofs.Common.{◌≡◌, ◌≢◌, ℕ, ◌+◌, ◌*◌, ◌-◌, ◌≤◌, ◌<◌, ◌⊎◌, inl, inr, List, [], ◌∷◌, ◌++◌, length, take, drop, Bool, true, false, refl, sym, ap, subst, ◌∙◌, arith, append_assoc, length-append}
-use Rattle.std.specs.Prelude.{Option, Some, None, Result, Ok, Err, OnOk, OnErr, ⊤, if◌then◌else◌}
-use Rattle.std.specs.Bool.{OnTrue}
-use Rattle.std.proofs.lemmas.Bool.{OnTrue_from, false≢true, true≢false}
+use Rattle.std.proofs.Common.{◌≡◌, ◌≢◌, ℕ, ◌+◌, ◌*◌, ◌≤◌, inl, List, [], ◌∷◌, ◌++◌, length, Bool, true, false, refl, sym, ap, subst, ◌∙◌, arith, append_assoc}
+use Rattle.std.specs.Prelude.{Option, Some, None}
+use Rattle.std.proofs.lemmas.Bool.{false≢true, true≢false}
 use Rattle.std.proofs.lemmas.List.{append-nil}
 use Rattle.std.proofs.lemmas.Option.{same_Some}
 use Rattle.ts_config.specs.declared.setup.TransformLine.{TransformLine}
-use Rattle.ts_link.specs.Link.{Fewer, Look, NoMore}
+use Rattle.ts_link.specs.Link.{Fewer, NoMore}
 use Rattle.ts_link.specs.declared.link.Link as link
-use Rattle.ts_link.specs.declared.octets.NoMemory.{NoMemory}
 use Rattle.ts_lists.proofs.Cases.{split}
-use Rattle.ts_passing.specs.Feeding.{FeedsPart, GetsPart}
+use Rattle.ts_passing.specs.Feeding.{GetsPart}
 use Rattle.ts_passing.specs.Lines.{IsOfSome, passes}
 use Rattle.ts_passing.proofs.Inserted.{changed_append, changed_behind, passing_more, stage_passes}
-use Rattle.ts_transform.specs.Flow.{ChainState, IsFinished, Rests, given_if, left_to_do, passing, wants}
+use Rattle.ts_transform.specs.Flow.{ChainState, given_if, left_to_do, passing, wants}
 use Rattle.ts_transform.specs.declared.pump.Stage.{Stage}
 use Rattle.ts_transform.specs.declared.transform.Transform as transform
 use Rattle.ts_transform.proofs.Resting.{ended-rests}
@@ -25,21 +23,18 @@ use Rattle.ts_wire.specs.declared.body.BodyState.{BodyState}
 use Rattle.ts_wire.specs.declared.body.BodyState.TheVariants as B
 use Rattle.ts_wire.specs.declared.frames.Mode.{Mode}
 use Rattle.ts_wire.specs.declared.frames.Mode.TheVariants as M
-use Rattle.ts_wire.specs.Frames.{end_of, frame_of}
-use Rattle.ts_wire.specs.Place.{Place, state_of}
-use Rattle.ts_wire.proofs.FrameLemmas.{length-frame_of}
+use Rattle.ts_wire.specs.Frames.{end_of}
 use Rattle.ts_request.specs.BodyWay.{Writes, end_cost, more_comes, pass_cost, passage_left, to_come, to_read, write_cost}
-use Rattle.ts_request.specs.Carried.{UploadsStep, answer_work}
+use Rattle.ts_request.specs.Carried.{UploadsStep}
 use Rattle.ts_request.specs.Carrying.{carrier_look, request_lines, without_line}
 use Rattle.ts_request.specs.Front.{FrontSeen, body_most}
-use Rattle.ts_request.specs.Pairing.{CarrierPair, CarrierRefuses, IsEnded, SendsBody, StandsFirst, WayBy, all_sent, carrier_left, handed_of, left_if, own_of, source_of, way_left, work_left}
-use Rattle.ts_request.specs.PassageSteps.{FeedsPassage, FramesPiece, LosesPart, Stalls, Works}
+use Rattle.ts_request.specs.Pairing.{CarrierPair, CarrierRefuses, IsEnded, SendsBody, WayBy, all_sent, carrier_left, handed_of, left_if, own_of, source_of, way_left, work_left}
+use Rattle.ts_request.specs.PassageSteps.{Stalls}
 use Rattle.ts_request.specs.Sent.{sent_framing, sent_head}
 use Rattle.ts_request.specs.declared.carrier.Carrier.{Carrier}
 use Rattle.ts_request.specs.declared.carrier.HeadState.{HeadState}
 use Rattle.ts_request.specs.declared.carrier.HeadState.TheVariants as H
 use Rattle.ts_request.specs.declared.passage.Passage.{Passage}
-use Rattle.ts_request.proofs.BodyWay.{writes_ended, writes_fed, writes_framed, writes_lost, writes_worked}
 use Rattle.ts_request.proofs.Steps.{TellsMore, is_quiet, moved_on, no_more_self, quiet_step}
 use Rattle.ts_request.proofs.Told.{carried_grown, taken_grown, unlines_framed}
 

@@ -1,17 +1,16 @@
 -- A step that reads more of the body from the client.
-use Rattle.std.proofs.Common.{◌≡◌, ◌≢◌, ℕ, ◌+◌, ◌*◌, ◌-◌, ◌≤◌, ◌<◌, ◌⊎◌, inl, inr, List, [], ◌++◌, length, take, drop, Bool, true, false, refl, sym, ap, subst, ◌∙◌, arith, append_assoc, length-append}
-use Rattle.std.specs.Prelude.{IsSomeAnd, Option, Some, None, ⊤, if◌then◌else◌}
-use Rattle.std.proofs.lemmas.Bool.{false≢true, true≢false}
+use Rattle.std.proofs.Common.{◌≡◌, ◌≢◌, ℕ, ◌+◌, ◌*◌, ◌≤◌, inl, List, [], ◌++◌, length, take, Bool, true, false, refl, sym, ap, subst, ◌∙◌, arith, append_assoc, length-append}
+use Rattle.std.specs.Prelude.{IsSomeAnd, Option, Some, None}
+use Rattle.std.proofs.lemmas.Bool.{false≢true}
 use Rattle.std.proofs.lemmas.List.{append-nil, length-take}
 use Rattle.ts_config.specs.declared.setup.TransformLine.{TransformLine}
-use Rattle.ts_link.specs.Link.{AgainsFall, Calls, Fewer, HasStalls, IsSure, Look, NeverStalls, NoMore, Plan, all_of}
+use Rattle.ts_link.specs.Link.{AgainsFall, Fewer, Look, NoMore, Plan, all_of}
 use Rattle.ts_link.specs.LinkAnswers.{EndsWell, FillsSome, count_got, got_again, got_failed}
 use Rattle.ts_link.specs.declared.link.Got.{Got}
 use Rattle.ts_link.specs.declared.link.Got.TheVariants as G
 use Rattle.ts_link.specs.declared.link.Link as link
 use Rattle.ts_transform.specs.declared.transform.Transform as transform
 use Rattle.ts_upstream.specs.Uploads.{Rose8, UploadCounts, UploadRefuses, both, taken_since, upload_failed, upload_waits}
-use Rattle.ts_upstream.specs.declared.upstream.Uploaded.{Uploaded}
 use Rattle.ts_upstream.specs.declared.upstream.Uploaded.TheVariants as U
 use Rattle.ts_upstream.specs.declared.upstream.Upstream as upstream
 use Rattle.ts_wire.specs.declared.body.BodyState.TheVariants as B
@@ -22,7 +21,7 @@ use Rattle.ts_request.specs.PassageSteps.{IsNext}
 use Rattle.ts_request.specs.BodyWay.{passage_left, to_come, to_read, write_cost}
 use Rattle.ts_request.specs.Carried.{UploadsStep, answer_read}
 use Rattle.ts_request.specs.Carrying.{carrier_look, request_lines}
-use Rattle.ts_request.specs.Front.{FrontSeen, ReadsBody, ShowsClient, body_given, body_left, body_left_by, body_most, body_most_by, front_look, given_by, left_by}
+use Rattle.ts_request.specs.Front.{FrontSeen, ReadsBody, ShowsClient, body_left, body_left_by, body_most, body_most_by, front_look, given_by, left_by}
 use Rattle.ts_request.specs.Pairing.{CarrierPair, CarrierRefuses, IsDone, SendsBody, WayBy, carrier_left, handed_of, left_if, source_of, way_left, work_left}
 use Rattle.ts_request.specs.Sent.{RefusesUpload}
 use Rattle.ts_request.specs.Text.{Text}
@@ -37,8 +36,7 @@ use Rattle.ts_request.proofs.Asking.{inside_calm, inside_step}
 use Rattle.ts_request.proofs.Bodies.{open_stalls, way_body}
 use Rattle.ts_request.proofs.BodySteps.{goes_on}
 use Rattle.ts_request.proofs.Finishing.{refused_by}
-use Rattle.ts_request.proofs.Steps.{both_less_first, counted_same, counted_up, ends_if, falls_by, keeps_same, lacks_if, may_same}
-use Rattle.ts_request.proofs.Told.{told_is}
+use Rattle.ts_request.proofs.Steps.{both_less_first, counted_same, counted_up, ends_if, falls_by, lacks_if, may_same}
 use Rattle.ts_link.specs.Counts.{Counted}
 
 -- ---- the answer

@@ -1,10 +1,8 @@
 -- The steps of a body's way that call no link, by the answer of the call that each makes.
-use Rattle.std.proofs.Common.{◌≡◌, ◌≢◌, ℕ, ◌+◌, ◌*◌, ◌≤◌, ◌<◌, ◌⊎◌, inl, inr, List, [], ◌++◌, length, take, Bool, true, false, refl, sym, ap, subst, ◌∙◌, arith, append_assoc, length-append}
+use Rattle.std.proofs.Common.{◌≡◌, ◌≢◌, ℕ, ◌+◌, ◌*◌, ◌≤◌, ◌<◌, ◌⊎◌, inl, inr, List, [], ◌++◌, length, Bool, true, false, refl, sym, ap, subst, ◌∙◌, arith, append_assoc, length-append}
 use Rattle.std.specs.Prelude.{Option, Some, None, Result, Ok, Err, OnOk, OnErr, ⊤}
-use Rattle.std.specs.Bool.{OnTrue}
 use Rattle.std.proofs.lemmas.Bool.{OnTrue_from}
 use Rattle.std.proofs.lemmas.List.{append-nil}
-use Rattle.std.proofs.lemmas.Option.{same_Some}
 use Rattle.ts_config.specs.declared.setup.TransformLine.{TransformLine}
 use Rattle.ts_link.specs.declared.link.Link as link
 use Rattle.ts_link.specs.declared.octets.NoMemory.{NoMemory}
@@ -21,14 +19,14 @@ use Rattle.ts_request.specs.BodyWay.{end_cost, more_comes, passage_left, to_come
 use Rattle.ts_request.specs.Carried.{UploadsStep, answer_work}
 use Rattle.ts_request.specs.Carrying.{request_lines}
 use Rattle.ts_request.specs.Front.{FrontSeen, body_most}
-use Rattle.ts_request.specs.Pairing.{CarrierPair, IsEnded, handed_of}
+use Rattle.ts_request.specs.Pairing.{CarrierPair, IsEnded}
 use Rattle.ts_request.specs.PassageSteps.{FeedsPassage, FramesPiece, IsNext, IsNextBy, LosesPart, Stalls, Works}
 use Rattle.ts_request.specs.declared.carrier.Carrier.{Carrier}
 use Rattle.ts_request.specs.declared.passage.Next.{Next}
 use Rattle.ts_request.specs.declared.passage.Next.TheVariants as N
 use Rattle.ts_request.specs.declared.passage.Passage.{Passage}
 use Rattle.ts_request.proofs.BodyWay.{writes_ended, writes_fed, writes_framed, writes_lost, writes_worked}
-use Rattle.ts_request.proofs.Bodies.{comes_over, end_short, ended_cost, fed_cost, framed_cost, given_more, got_some, idle_step, lost_cost, lost_step, more_step, on_way, one_more_comes, open_stalls, way_body, worked_cost}
+use Rattle.ts_request.proofs.Bodies.{comes_over, end_short, ended_cost, fed_cost, framed_cost, given_more, got_some, idle_step, lost_step, more_step, one_more_comes, open_stalls, way_body, worked_cost}
 
 -- what comes next is said of the passage that the carrier has
 pub next_is : {P : Type 0} (x : Option (Passage P)) (inbox : List ℕ) (next : Next) (p : Passage P)

@@ -1,7 +1,7 @@
 -- The way of a request's body: each step keeps what holds of it, and what was framed is a front of the request
 -- lines' work, and at the end the whole.
-use Rattle.std.proofs.Common.{◌≡◌, ◌≢◌, ℕ, ◌+◌, ◌<◌, ◌≤◌, ◌⊎◌, inl, inr, List, [], ◌∷◌, ◌++◌, length, take, Bool, true, false, arith, refl, sym, ap, subst, ◌∙◌, append_assoc}
-use Rattle.std.specs.Prelude.{All, Option, Some, None, flat_map}
+use Rattle.std.proofs.Common.{◌≡◌, ◌≢◌, ℕ, inl, inr, List, [], ◌∷◌, ◌++◌, length, Bool, true, false, arith, refl, sym, ap, subst, ◌∙◌}
+use Rattle.std.specs.Prelude.{Option, Some, flat_map}
 use Rattle.std.specs.Bool.{OnTrue}
 use Rattle.std.proofs.lemmas.Bool.{OnTrue_from, true≢false, false≢true}
 use Rattle.std.proofs.lemmas.List.{append-nil}
@@ -9,13 +9,13 @@ use Rattle.std.proofs.lemmas.List.Elements.{All-append, All-cons, All-nil}
 use Rattle.std.proofs.lemmas.Grind.{flat_map-append}
 use Rattle.ts_config.specs.declared.setup.TransformLine.{TransformLine}
 use Rattle.ts_config.specs.Bodies.{compose_lines, is_early}
-use Rattle.ts_passing.specs.Feeding.{FeedsPart, GetsPart}
+use Rattle.ts_passing.specs.Feeding.{GetsPart}
 use Rattle.ts_passing.specs.Inserted.{AllChangeNoMore, ChangesNoMore}
 use Rattle.ts_passing.specs.Lines.{IsOfSome}
-use Rattle.ts_passing.specs.Sends.{FinishesEarly, Sends, StaysShort}
+use Rattle.ts_passing.specs.Sends.{Sends}
 use Rattle.ts_passing.proofs.Early.{finished_early, rests_soon, sends_given, sends_kept, sends_taken, stays_short}
 use Rattle.ts_passing.proofs.InsertedStages.{pumped_lines}
-use Rattle.ts_transform.specs.Flow.{ChainState, IsFinished, Rests, Takes, TakesAway, client_wait, flow, given_if, last_ended, wants}
+use Rattle.ts_transform.specs.Flow.{ChainState, IsFinished, Rests, Takes, TakesAway, flow, given_if, wants}
 use Rattle.ts_transform.specs.Stage.{rest_of}
 use Rattle.ts_transform.specs.declared.pump.Part.{Part}
 use Rattle.ts_transform.specs.declared.pump.Stage.{Stage}
@@ -28,7 +28,7 @@ use Rattle.ts_wire.specs.declared.frames.Mode.{Mode}
 use Rattle.ts_wire.specs.Frames.{IsPiece, cut_body, end_of, frame_of, frames}
 use Rattle.ts_wire.specs.Place.{IsFed, Place, state_of}
 use Rattle.ts_request.specs.BodyWay.{IsFrontOfWork, IsWholeWork, Passes, Writes}
-use Rattle.ts_request.specs.PassageSteps.{FeedsPassage, FramesPiece, HasNoWork, LosesPart, Works}
+use Rattle.ts_request.specs.PassageSteps.{FeedsPassage, FramesPiece, LosesPart, Works}
 use Rattle.ts_request.specs.declared.passage.Passage.{Passage}
 
 -- ---- a chain stays one of the lines

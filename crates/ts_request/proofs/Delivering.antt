@@ -1,24 +1,21 @@
 -- What holds of a front and a carrier that belong together says what the origin took.
-use Rattle.std.proofs.Common.{◌≡◌, ◌≢◌, ℕ, ◌+◌, ◌⊎◌, inl, inr, List, [], ◌++◌, length, Bool, true, false, refl, sym, ap, subst, ◌∙◌, append_assoc}
+use Rattle.std.proofs.Common.{◌≡◌, ℕ, inl, inr, List, [], ◌++◌, length, true, refl, sym, ap, subst, ◌∙◌}
 use Rattle.std.proofs.Common.{arith}
 use Rattle.std.specs.Prelude.{Option, Some, None}
 use Rattle.std.proofs.lemmas.Bool.{false≢true}
 use Rattle.std.proofs.lemmas.List.{append-nil}
 use Rattle.ts_config.specs.declared.setup.TransformLine.{TransformLine}
-use Rattle.ts_config.specs.Bodies.{is_early}
 use Rattle.ts_config.specs.declared.setup.Setup.{Setup}
 use Rattle.ts_passing.specs.Lines.{ActsAsLines}
 use Rattle.ts_link.specs.declared.link.Link as link
 use Rattle.ts_transform.specs.declared.transform.Transform as transform
 use Rattle.ts_upstream.specs.declared.upstream.Upstream as upstream
-use Rattle.ts_wire.specs.declared.body.BodyState.TheVariants as B
-use Rattle.ts_wire.specs.declared.framing.Framing.{Framing}
 use Rattle.ts_wire.specs.Body.{BodyOf}
 use Rattle.ts_wire.specs.Frames.{cut_body, frames}
 use Rattle.ts_wire.specs.Place.{state_of}
-use Rattle.ts_request.specs.BodyWay.{IsFrontOf, mode_said}
-use Rattle.ts_request.specs.Carrying.{IsFreshCarrier, behind_head, carrier_look, request_lines, without_line}
-use Rattle.ts_request.specs.Delivered.{CarriesUpload, Delivers, IsDelivered, Took, plain, upload, upload_text}
+use Rattle.ts_request.specs.BodyWay.{IsFrontOf}
+use Rattle.ts_request.specs.Carrying.{IsFreshCarrier, behind_head, request_lines, without_line}
+use Rattle.ts_request.specs.Delivered.{Delivers, Took, plain, upload, upload_text}
 use Rattle.ts_request.specs.Front.{FrontSeen, fresh_front}
 use Rattle.ts_request.specs.Pairing.{CarrierPair, HoldsBack, IsDone, SendsBody, SendsPlain, StandsFirst, WayBy, all_sent, handed_of, own_of, source_of}
 use Rattle.ts_request.specs.Sent.{sent_framing, sent_head}

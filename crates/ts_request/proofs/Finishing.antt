@@ -1,16 +1,12 @@
 -- The steps that end an upload: it is done, or refused; and a read of its body.
-use Rattle.std.proofs.Common.{◌≡◌, ◌≢◌, ℕ, ◌+◌, ◌*◌, ◌-◌, ◌≤◌, ◌<◌, ◌⊎◌, inl, inr, List, [], ◌++◌, length, take, drop, Bool, true, false, refl, sym, ap, subst, ◌∙◌, arith, append_assoc, length-append}
-use Rattle.std.specs.Prelude.{IsSomeAnd, Option, Some, None, ⊤, if◌then◌else◌}
-use Rattle.std.proofs.lemmas.Bool.{false≢true, true≢false}
+use Rattle.std.proofs.Common.{◌≡◌, ◌≢◌, ℕ, ◌≤◌, inl, inr, List, [], ◌++◌, true, refl, sym, ap, subst, ◌∙◌, arith, append_assoc}
+use Rattle.std.specs.Prelude.{Option, Some, None}
 use Rattle.std.proofs.lemmas.List.{append-nil}
 use Rattle.httparse.specs.Grammar as grammar
 use Rattle.ts_config.specs.declared.setup.TransformLine.{TransformLine}
-use Rattle.ts_config.specs.Bodies.{is_early}
 use Rattle.ts_link.specs.Link.{Look, all_of}
 use Rattle.ts_link.specs.declared.link.Link as link
-use Rattle.ts_lists.proofs.Cases.{split}
 use Rattle.ts_transform.specs.declared.transform.Transform as transform
-use Rattle.ts_upstream.specs.declared.upstream.Uploaded.{Uploaded}
 use Rattle.ts_upstream.specs.declared.upstream.Uploaded.TheVariants as U
 use Rattle.ts_upstream.specs.declared.upstream.Upstream as upstream
 use Rattle.ts_wire.specs.declared.body.BodyState.{BodyState}
@@ -19,10 +15,9 @@ use Rattle.ts_wire.specs.declared.framing.Framing.{Framing}
 use Rattle.ts_wire.specs.Frames.{cut_body}
 use Rattle.ts_wire.specs.Place.{state_of}
 use Rattle.ts_request.specs.Begun.{IsBegun}
-use Rattle.ts_request.specs.BodyWay.{IsWholeWork, Passes, Writes, to_come}
 use Rattle.ts_request.specs.Carried.{UploadsStep}
 use Rattle.ts_request.specs.Carrying.{request_lines}
-use Rattle.ts_request.specs.Front.{FrontSeen, IsShown, ShowsClient, body_given, body_left, body_most, front_look}
+use Rattle.ts_request.specs.Front.{FrontSeen, IsShown, ShowsClient, body_left, body_most, front_look}
 use Rattle.ts_request.specs.Pairing.{CarrierPair, CarrierRefuses, IsDone, IsEnded, SendsBody, SendsPlain, WayBy, carrier_left, handed_of, source_of, work_left}
 use Rattle.ts_request.specs.PassageSteps.{Stalls}
 use Rattle.ts_request.specs.Sent.{RefusesUpload}
@@ -30,14 +25,13 @@ use Rattle.ts_request.specs.Upload.{HasUpload, LacksUpload}
 use Rattle.ts_request.specs.declared.carrier.Carrier.{Carrier}
 use Rattle.ts_request.specs.declared.carrier.HeadState.{HeadState}
 use Rattle.ts_request.specs.declared.carrier.HeadState.TheVariants as H
-use Rattle.ts_request.specs.declared.passage.Next.TheVariants as N
 use Rattle.ts_request.specs.declared.passage.Passage.{Passage}
 use Rattle.ts_request.specs.declared.stage.Stage.{Stage}
 use Rattle.ts_request.specs.declared.stage.Stage.TheVariants as S
 use Rattle.ts_request.proofs.BodyWay.{finished_whole, rests_late}
 use Rattle.ts_request.proofs.Bodies.{calm_work, idle_step, open_stalls, way_body}
 use Rattle.ts_request.proofs.Judging.{early_accepts, ended_accepts, other_accepts, short_refused}
-use Rattle.ts_request.proofs.Steps.{moved_on, quiet_step}
+use Rattle.ts_request.proofs.Steps.{quiet_step}
 
 -- ---- what a front knows of its client's source
 

@@ -1,15 +1,14 @@
 -- A carrier as a link: a read of its origin, and a write that is held.
-use Rattle.std.proofs.Common.{◌≡◌, ◌≢◌, ℕ, ◌+◌, ◌-◌, ◌≤◌, ◌<◌, List, [], ◌++◌, length, take, drop, Bool, true, false, refl, sym, ap, subst, ◌∙◌, arith, append_assoc, length-append}
-use Rattle.std.specs.Prelude.{IfSome, IsSomeAnd, Option, Some, None, ⊤, if◌then◌else◌}
+use Rattle.std.proofs.Common.{◌≡◌, ◌≢◌, ℕ, ◌≤◌, ◌<◌, List, [], ◌++◌, length, take, Bool, true, false, refl, sym, ap, subst, ◌∙◌, arith, append_assoc}
+use Rattle.std.specs.Prelude.{IfSome, IsSomeAnd, Option, Some, None, if◌then◌else◌}
 use Rattle.std.proofs.lemmas.List.{append-nil, take_all}
 use Rattle.ts_link.specs.Counts.{one_more}
-use Rattle.ts_link.specs.Link.{IsSure, IsSurePlan, IsWithinLeave, Look, MayReplace, Plan, Reads, Writes}
-use Rattle.ts_link.specs.LinkAnswers.{count_put}
+use Rattle.ts_link.specs.Link.{IsSurePlan, Look, Plan, Reads, Writes}
 use Rattle.ts_link.specs.declared.link.Got.{Got}
 use Rattle.ts_link.specs.declared.link.Link as link
 use Rattle.ts_link.specs.declared.link.Put.{Put}
 use Rattle.ts_link.specs.declared.link.Put.TheVariants as put
-use Rattle.ts_request.specs.Carrying.{CarrierGoes, GoesOut, HoldsPiece, behind_head, carrier_look, look_over, plan_if, stays_plan, without_line}
+use Rattle.ts_request.specs.Carrying.{CarrierGoes, GoesOut, HoldsPiece, behind_head, look_over, plan_if, stays_plan, without_line}
 use Rattle.ts_request.specs.CarrierLaws.{out_stays}
 use Rattle.ts_request.specs.declared.carrier.Carrier.{Carrier}
 use Rattle.ts_request.specs.declared.carrier.HeadState.{HeadState}

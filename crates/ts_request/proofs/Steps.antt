@@ -1,21 +1,19 @@
 -- One step of an upload, by what it calls: all that is asked of a step follows from what it leaves.
-use Rattle.std.proofs.Common.{◌≡◌, ◌≢◌, ℕ, ◌+◌, ◌*◌, ◌-◌, ◌≤◌, ◌<◌, ◌⊎◌, inl, inr, List, [], ◌∷◌, ◌++◌, length, Bool, true, false, refl, sym, ap, subst, ◌∙◌, arith}
-use Rattle.std.specs.Prelude.{IsSomeAnd, Option, Some, None, ⊤, if◌then◌else◌}
-use Rattle.std.specs.Arc.{arc_value}
-use Rattle.std.proofs.lemmas.List.{append-nil}
+use Rattle.std.proofs.Common.{◌≡◌, ℕ, ◌≤◌, List, [], ◌∷◌, ◌++◌, Bool, true, false, refl, sym, ap, subst, ◌∙◌, arith}
+use Rattle.std.specs.Prelude.{IsSomeAnd, Option, Some, None}
 use Rattle.ts_config.specs.declared.setup.TransformLine.{TransformLine}
 use Rattle.ts_link.specs.Counts.{Counted, Rose}
-use Rattle.ts_link.specs.Link.{AgainsFall, Calls, Fewer, IsSure, Look, MayReplace, NeverLeaves, NeverStalls, NoMore, Plan, all_of}
+use Rattle.ts_link.specs.Link.{AgainsFall, Fewer, Look, MayReplace, NoMore, Plan}
 use Rattle.ts_link.specs.declared.link.Link as link
 use Rattle.ts_transform.specs.declared.transform.Transform as transform
-use Rattle.ts_upstream.specs.Uploads.{KeepsLink, SameRefusal, StayPaired, UploadCauses, UploadCounts, UploadEnds, UploadFalls, UploadKeeps, UploadLacks, UploadRefuses, Uploads, UploadsClient, UploadsOrigin, UploadsSurely, both, upload_failed, upload_waits}
+use Rattle.ts_upstream.specs.Uploads.{KeepsLink, UploadCounts, UploadEnds, UploadFalls, UploadLacks, UploadRefuses, UploadsOrigin, both, upload_failed, upload_waits}
 use Rattle.ts_upstream.specs.declared.upstream.Uploaded.{Uploaded}
 use Rattle.ts_upstream.specs.declared.upstream.Uploaded.TheVariants as U
 use Rattle.ts_upstream.specs.declared.upstream.Upstream as upstream
 use Rattle.ts_request.specs.Carried.{UploadsStep}
-use Rattle.ts_request.specs.Carrying.{CarrierStill, behind_head, carrier_look, plan_if, request_lines, stays_plan, without_line}
-use Rattle.ts_request.specs.Front.{FrontSeen, FrontStill, front_look}
-use Rattle.ts_request.specs.Pairing.{CarrierPair, CarrierRefuses, all_sent, carrier_left, left_if, own_of, source_of}
+use Rattle.ts_request.specs.Carrying.{behind_head, carrier_look, plan_if, stays_plan, without_line}
+use Rattle.ts_request.specs.Front.{FrontSeen, front_look}
+use Rattle.ts_request.specs.Pairing.{CarrierPair, CarrierRefuses, all_sent, carrier_left, own_of, source_of}
 use Rattle.ts_request.specs.declared.carrier.Carrier.{Carrier}
 use Rattle.ts_request.specs.declared.carrier.HeadState.{HeadState}
 use Rattle.ts_request.specs.declared.passage.Passage.{Passage}

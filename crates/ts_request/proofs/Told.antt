@@ -1,12 +1,11 @@
 -- What a carrier tells as taken: the head as it was written, and behind it all that its upload wrote.
-use Rattle.std.proofs.Common.{◌≡◌, ℕ, ◌+◌, ◌-◌, ◌≤◌, List, [], ◌++◌, length, take, drop, Bool, true, false, refl, sym, ap, subst, ◌∙◌, arith, append_assoc, length-append}
+use Rattle.std.proofs.Common.{◌≡◌, ℕ, ◌+◌, ◌-◌, List, ◌++◌, length, take, drop, Bool, true, false, refl, sym, ap, ◌∙◌, arith, append_assoc, length-append}
 use Rattle.std.specs.Prelude.{if◌then◌else◌}
-use Rattle.std.proofs.lemmas.List.{append-nil, take_at, drop_at, length-take, length-drop, take-append-drop}
+use Rattle.std.proofs.lemmas.List.{take_at, drop_at, length-take, take-append-drop}
 use Rattle.httparse.specs.Ascii.{crlf_bytes}
 use Rattle.ts_wire.specs.Printed.{framing_line, with_framing}
 use Rattle.ts_wire.specs.declared.printed.ClientFraming.{ClientFraming}
 use Rattle.ts_request.specs.Carrying.{behind_head, line_place, without_line}
-use Rattle.ts_request.specs.declared.carrier.HeadState.{HeadState}
 use Rattle.ts_request.specs.declared.carrier.HeadState.TheVariants as H
 
 -- bytes in the middle are passed over

@@ -1,9 +1,9 @@
 -- The stages that must work: each is there, and a pump of one does something.
-use Rattle.std.proofs.Common.{◌≡◌, ℕ, zero, suc, ◌+◌, ◌<◌, ◌≤◌, ◌⊎◌, inl, inr, List, [], ◌∷◌, length, Bool, true, false, arith, refl, sym, ap, subst, ◌∙◌}
-use Rattle.std.specs.Prelude.{nat_le, Option, Some, None}
+use Rattle.std.proofs.Common.{◌≡◌, ℕ, zero, suc, ◌<◌, ◌≤◌, List, [], ◌∷◌, length, Bool, true, false, arith, sym, subst}
+use Rattle.std.specs.Prelude.{nat_le}
 use Rattle.std.proofs.lemmas.Bool.Decides.{nat_tests}
 use Rattle.ts_transform.specs.Flow.{AnswersAt, MustPump}
-use Rattle.ts_transform.specs.Stage.{Answers, AnswersIf, AnswersWork, HasDuty, MOST_WAITING, done_by, has_ended, has_work, is_done, needs_no_more}
+use Rattle.ts_transform.specs.Stage.{AnswersIf, AnswersWork, HasDuty, MOST_WAITING, done_by, has_ended, has_work, is_done, needs_no_more}
 use Rattle.ts_transform.specs.declared.pump.Pumped.{Pumped}
 use Rattle.ts_transform.specs.declared.pump.Pumped.TheVariants.{Moved, Ended, Blocked, Idle}
 use Rattle.ts_transform.specs.declared.pump.Stage.{Stage}

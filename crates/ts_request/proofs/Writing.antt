@@ -1,14 +1,13 @@
 -- A step that writes to the origin inside what waits for it.
-use Rattle.std.proofs.Common.{◌≡◌, ◌≢◌, ℕ, ◌+◌, ◌*◌, ◌-◌, ◌≤◌, ◌<◌, ◌⊎◌, inl, inr, List, [], ◌++◌, length, take, drop, Bool, true, false, refl, sym, ap, subst, ◌∙◌, arith, length-append}
-use Rattle.std.specs.Prelude.{IsSomeAnd, Option, Some, None, ⊤, if◌then◌else◌}
+use Rattle.std.proofs.Common.{◌≡◌, ◌≢◌, ℕ, ◌+◌, ◌*◌, ◌-◌, ◌≤◌, inl, inr, List, [], ◌++◌, length, take, drop, Bool, true, false, refl, sym, ap, subst, ◌∙◌, arith, length-append}
+use Rattle.std.specs.Prelude.{IsSomeAnd, Option, Some, None, if◌then◌else◌}
 use Rattle.std.proofs.lemmas.List.{append-nil, length-drop, length-take}
 use Rattle.ts_config.specs.declared.setup.TransformLine.{TransformLine}
-use Rattle.ts_link.specs.Counts.{Counted, Rose}
+use Rattle.ts_link.specs.Counts.{Counted}
 use Rattle.ts_link.specs.Link.{AgainsFall, Calls, Fewer, IsSure, IsSurePlan, Look, MayReplace, NeverLeaves, NeverStalls, NoMore, Plan, TakesMore}
 use Rattle.ts_link.specs.declared.link.Link as link
 use Rattle.ts_transform.specs.declared.transform.Transform as transform
-use Rattle.ts_upstream.specs.Uploads.{KeepsLink, Rose8, SameRefusal, UploadCounts, UploadLacks, UploadRefuses, both, taken_since, upload_failed, upload_waits}
-use Rattle.ts_upstream.specs.declared.upstream.Uploaded.{Uploaded}
+use Rattle.ts_upstream.specs.Uploads.{Rose8, SameRefusal, UploadCounts, UploadRefuses, both, taken_since, upload_failed, upload_waits}
 use Rattle.ts_upstream.specs.declared.upstream.Uploaded.TheVariants as U
 use Rattle.ts_upstream.specs.declared.upstream.Upstream as upstream
 use Rattle.ts_vconn.specs.MoveAnswers.{Went, count_pushed, push_again, push_failed}
@@ -19,13 +18,12 @@ use Rattle.ts_request.specs.BodyWay.{to_come, write_cost}
 use Rattle.ts_request.specs.Carried.{UploadsStep, answer_pushed}
 use Rattle.ts_request.specs.Carrying.{behind_head, carrier_look, look_over, request_lines, stays_plan, without_line}
 use Rattle.ts_request.specs.Front.{FrontSeen, body_most, front_look}
-use Rattle.ts_request.specs.Pairing.{CarrierPair, CarrierRefuses, HoldsBack, IsDone, IsEnded, SendsBody, SendsPlain, StandsFirst, WayBy, all_sent, carrier_left, left_if, own_of, source_of, way_left, work_left}
+use Rattle.ts_request.specs.Pairing.{CarrierPair, CarrierRefuses, StandsFirst, WayBy, all_sent, carrier_left, left_if, own_of, way_left, work_left}
 use Rattle.ts_request.specs.declared.carrier.Carrier.{Carrier}
 use Rattle.ts_request.specs.declared.carrier.HeadState.{HeadState}
 use Rattle.ts_request.specs.declared.carrier.HeadState.TheVariants as H
 use Rattle.ts_request.specs.declared.passage.Passage.{Passage}
-use Rattle.ts_request.proofs.Steps.{both_less, counted_same, counted_rose, counted_up, ends_if, falls_by, keeps_same, lacks_if, may_same, not_left, plan_inside, stays_inside}
-use Rattle.ts_request.proofs.Told.{told_is}
+use Rattle.ts_request.proofs.Steps.{both_less, counted_same, counted_up, ends_if, falls_by, keeps_same, lacks_if, not_left, plan_inside, stays_inside}
 
 -- ---- the answer
 

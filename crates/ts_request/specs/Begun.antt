@@ -1,5 +1,5 @@
 -- The steps of an upload: when each comes, and what it leaves.
-use Rattle.std.specs.Prelude.{◌≡◌, ℕ, ◌++◌, List, [], take, Bool, true, false, Option, Some, None}
+use Rattle.std.specs.Prelude.{◌≡◌, ℕ, ◌++◌, List, take}
 use Rattle.ts_config.specs.declared.setup.TransformLine.{TransformLine}
 use Rattle.ts_link.specs.Link.{NoMore}
 use Rattle.ts_link.specs.LinkAnswers.{count_got}
@@ -11,13 +11,12 @@ use Rattle.ts_upstream.specs.declared.upstream.Upstream as upstream
 use Rattle.ts_request.specs.Carried.{UploadsStep}
 use Rattle.ts_request.specs.Carrying.{carrier_look}
 use Rattle.ts_request.specs.Front.{FrontSeen, ReadsBody}
-use Rattle.ts_request.specs.Pairing.{CarrierPair, IsEnded, carrier_left}
+use Rattle.ts_request.specs.Pairing.{CarrierPair, carrier_left}
 use Rattle.ts_request.specs.PassageSteps.{IsNextBy}
 use Rattle.ts_request.specs.declared.carrier.Carrier.{Carrier}
 use Rattle.ts_request.specs.declared.carrier.HeadState.{HeadState}
 use Rattle.ts_request.specs.declared.carrier.HeadState.TheVariants as H
 use Rattle.ts_request.specs.declared.passage.Next.{Next}
-use Rattle.ts_request.specs.declared.passage.Passage.{Passage}
 
 -- the upload has begun
 abbrev pub IsBegun : HeadState → Type 0

@@ -1,6 +1,6 @@
 -- What holds of a request's body on its way to the origin: what was framed of it is a front of the request lines'
 -- work on what was read of it (RFC 9112, sections 6.3 and 7.1; Developer's Guide, "Transformations").
-use Rattle.std.specs.Prelude.{◌≡◌, ◌≢◌, ℕ, ◌+◌, ◌*◌, ◌++◌, ◌⊎◌, List, [], length, Bool, true, false, All}
+use Rattle.std.specs.Prelude.{◌≡◌, ◌≢◌, ℕ, ◌+◌, ◌*◌, ◌++◌, ◌⊎◌, List, [], Bool, true, false, All}
 use Rattle.ts_config.specs.declared.setup.TransformLine.{TransformLine}
 use Rattle.ts_config.specs.Bodies.{compose_lines, is_early}
 use Rattle.ts_passing.specs.Lines.{IsOfSome, passes}

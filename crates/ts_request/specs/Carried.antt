@@ -1,7 +1,7 @@
 -- One step of an upload, and what was carried of it.
-use Rattle.std.specs.Prelude.{◌≡◌, ℕ, ◌⊎◌, List, [], ◌++◌, Bool, true, false, All, Option, Some, None, Result, Ok, Err, ⊤}
+use Rattle.std.specs.Prelude.{Bool, true, false, Result, Ok, Err, ⊤}
 use Rattle.ts_config.specs.declared.setup.TransformLine.{TransformLine}
-use Rattle.ts_link.specs.Link.{IsSure, Look}
+use Rattle.ts_link.specs.Link.{IsSure}
 use Rattle.ts_link.specs.declared.link.Got.{Got}
 use Rattle.ts_link.specs.declared.link.Got.TheVariants as G
 use Rattle.ts_link.specs.declared.link.Link as link

@@ -1,5 +1,5 @@
 -- Calls of a carrier as a link, and of the front that belongs to it: none at all, and calls after calls.
-use Rattle.std.specs.Prelude.{◌≡◌, ◌≢◌, ℕ, ◌+◌, ◌*◌, ◌-◌, ◌≤◌, ◌⊎◌, List, [], ◌∷◌, ◌++◌, length, drop, Bool, true, false, Option, Some, None}
+use Rattle.std.specs.Prelude.{◌≡◌, ℕ, ◌+◌, ◌*◌, ◌≤◌, List, [], ◌∷◌, ◌++◌, length, Bool, true, false, Option, Some, None}
 use Rattle.std.proofs.Common.{◌∙◌, ap, arith, inl, inr, refl, subst, sym}
 use Rattle.ts_config.specs.declared.setup.TransformLine.{TransformLine}
 use Rattle.ts_link.specs.Link.{Look}
@@ -10,10 +10,10 @@ use Rattle.ts_upstream.specs.Uploads.{Rose8, SameRefusal, taken_since}
 use Rattle.ts_upstream.specs.declared.upstream.Uploaded.{Uploaded}
 use Rattle.ts_upstream.specs.declared.upstream.Upstream as upstream
 use Rattle.ts_wire.specs.declared.framing.Framing.{Framing}
-use Rattle.ts_request.specs.BodyWay.{pass_cost, passage_left, to_come, to_read, write_cost}
+use Rattle.ts_request.specs.BodyWay.{to_read}
 use Rattle.ts_request.specs.Carrying.{CarrierGoes, CarrierStill, GoesOut, carrier_look, request_lines}
 use Rattle.ts_request.specs.Front.{FrontGoes, FrontSeen, StageStays, body_most}
-use Rattle.ts_request.specs.Pairing.{CarrierPair, CarrierRefuses, HoldsBack, IsDone, IsEnded, SendsBody, SendsPlain, StandsFirst, WayBy, all_sent, carrier_left, carrier_work, handed_of, left_if, own_of, source_of, way_left, work_left}
+use Rattle.ts_request.specs.Pairing.{CarrierPair, CarrierRefuses, StandsFirst, WayBy, all_sent, carrier_left, carrier_work, handed_of, left_if, own_of, source_of, way_left, work_left}
 use Rattle.ts_request.specs.declared.carrier.Carrier.{Carrier}
 use Rattle.ts_request.specs.declared.carrier.HeadState.{HeadState}
 use Rattle.ts_request.specs.declared.carrier.HeadState.TheVariants as H

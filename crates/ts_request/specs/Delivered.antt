@@ -1,6 +1,6 @@
 -- What a carrier's origin took of a request: its head with the framing line, and behind it the frames of a front of
 -- the request lines' work on the body; and all of it once the upload is done (RFC 9112, sections 6 and 7.1).
-use Rattle.std.specs.Prelude.{◌≡◌, ℕ, ◌++◌, ◌⊎◌, List, [], Bool, true, false, All}
+use Rattle.std.specs.Prelude.{◌≡◌, ℕ, ◌++◌, ◌⊎◌, List, [], Bool, true, All}
 use Rattle.ts_config.specs.declared.setup.TransformLine.{TransformLine}
 use Rattle.ts_config.specs.Bodies.{compose_lines, is_early}
 use Rattle.ts_config.specs.declared.setup.Setup.{Setup}

@@ -2,7 +2,6 @@
 -- head of the request with its framing line, and behind it the frames of a front of the request lines' work on
 -- what was read of the body (RFC 9112, sections 6 and 7.1; Developer's Guide, "Transformations").
 use Rattle.std.specs.Prelude.{◌≡◌, ℕ, ◌+◌, ◌*◌, ◌≤◌, ◌⊎◌, List, [], ◌++◌, length, Bool, true, false, Option, Some, None, ⊤}
-use Rattle.std.specs.Arc.{arc_value}
 use Rattle.ts_config.specs.declared.setup.TransformLine.{TransformLine}
 use Rattle.ts_link.specs.Link.{Look}
 use Rattle.ts_link.specs.declared.link.Link as link
@@ -10,7 +9,7 @@ use Rattle.ts_passing.specs.Lines.{ActsAsLines, lines_length, passes}
 use Rattle.ts_transform.specs.declared.transform.Transform as transform
 use Rattle.ts_upstream.specs.declared.upstream.Upstream as upstream
 use Rattle.ts_wire.specs.Limits.{framing_limit}
-use Rattle.ts_wire.specs.Printed.{framing_line, with_framing}
+use Rattle.ts_wire.specs.Printed.{framing_line}
 use Rattle.ts_wire.specs.declared.framing.Framing.{Framing}
 use Rattle.ts_request.specs.BodyWay.{Writes, end_cost, mode_said, pass_cost, passage_left, to_come, to_read, write_cost}
 use Rattle.ts_request.specs.Carrying.{request_lines}

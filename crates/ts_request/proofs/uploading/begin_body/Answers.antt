@@ -1,5 +1,5 @@
 -- The head goes on with its line, and the body sets out.
-use Rattle.std.proofs.Common.{◌≡◌, ◌-◌, List, ap, arith, length, subst, sym, ◌∙◌}
+use Rattle.std.proofs.Common.{◌≡◌, List, ap, arith, length, subst, sym, ◌∙◌}
 use Rattle.ts_config.specs.declared.setup.Setup.{Setup}
 use Rattle.ts_config.specs.declared.setup.TransformLine.{TransformLine}
 use Rattle.ts_wire.specs.Printed.{with_framing}

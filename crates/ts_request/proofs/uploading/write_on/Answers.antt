@@ -1,7 +1,7 @@
 -- One write to the origin inside is a step.
 use Rattle.std.proofs.Common.{sym, subst}
 use Rattle.ts_request.specs.Carried.{UploadsStep}
-use Rattle.ts_request.proofs.Writing.{write_step, written_on}
+use Rattle.ts_request.proofs.Writing.{write_step}
 use Rattle.ts_request.proofs.uploading.write_on.Goals as goal
 
 pub returns : goal.returns
