@@ -1,5 +1,6 @@
 -- A step that lets the origin inside move some of an upload of its own.
-use Rattle.std.proofs.Common.{◌≡◌, ℕ, ◌+◌, ◌≤◌, ◌⊎◌, inl, inr, List, [], ◌++◌, length, Bool, true, false, refl, sym, ap, subst, ◌∙◌, arith, append_assoc}
+use Rattle.std.proofs.Common.{◌≡◌, ℕ, ◌+◌, ◌≤◌, ◌⊎◌, inl, inr, List, [], ◌++◌, length, Bool, true, false}
+use Rattle.std.proofs.Common.{refl, sym, ap, subst, ◌∙◌, arith, append_assoc}
 use Rattle.std.specs.Prelude.{Option, Some, None}
 use Rattle.std.proofs.lemmas.Bool.{false≢true}
 use Rattle.std.proofs.lemmas.List.{append-nil, append_cancel_left}
@@ -7,16 +8,21 @@ use Rattle.ts_config.specs.declared.setup.TransformLine.{TransformLine}
 use Rattle.ts_link.specs.Link.{Fewer, IsSurePlan, Look, NoMore, all_of}
 use Rattle.ts_link.specs.declared.link.Link as link
 use Rattle.ts_transform.specs.declared.transform.Transform as transform
-use Rattle.ts_upstream.specs.Uploads.{StayPaired, UploadCauses, UploadCounts, UploadFalls, UploadKeeps, UploadLacks, UploadRefuses, Uploads, UploadsClient, UploadsOrigin, UploadsSurely, both, upload_failed, upload_waits}
+use Rattle.ts_upstream.specs.Uploads.{StayPaired, UploadCauses, UploadCounts, UploadFalls, UploadKeeps}
+use Rattle.ts_upstream.specs.Uploads.{UploadLacks, UploadRefuses, Uploads, UploadsClient, UploadsOrigin}
+use Rattle.ts_upstream.specs.Uploads.{UploadsSurely, both, upload_failed, upload_waits}
 use Rattle.ts_upstream.specs.declared.upstream.Uploaded.{Uploaded}
 use Rattle.ts_upstream.specs.declared.upstream.Uploaded.TheVariants as U
 use Rattle.ts_upstream.specs.declared.upstream.Upstream as upstream
 use Rattle.ts_request.specs.Begun.{IsBegun}
 use Rattle.ts_request.specs.BodyWay.{to_come}
 use Rattle.ts_request.specs.Carried.{UploadsStep, answer_asked, is_done}
-use Rattle.ts_request.specs.Carrying.{behind_head, carrier_look, look_over, request_lines, stays_plan, without_line}
-use Rattle.ts_request.specs.Front.{FrontSeen, body_given_by, body_left_by, body_most, body_most_by, front_look, given_by, left_by}
-use Rattle.ts_request.specs.Pairing.{CarrierPair, CarrierRefuses, StandsFirst, WayBy, all_sent, carrier_left, handed_of, left_if, own_of, source_of, work_left}
+use Rattle.ts_request.specs.Carrying.{behind_head, carrier_look, look_over, request_lines, stays_plan}
+use Rattle.ts_request.specs.Carrying.{without_line}
+use Rattle.ts_request.specs.Front.{FrontSeen, body_given_by, body_left_by, body_most, body_most_by}
+use Rattle.ts_request.specs.Front.{front_look, given_by, left_by}
+use Rattle.ts_request.specs.Pairing.{CarrierPair, CarrierRefuses, StandsFirst, WayBy, all_sent, carrier_left}
+use Rattle.ts_request.specs.Pairing.{handed_of, left_if, own_of, source_of, work_left}
 use Rattle.ts_request.specs.Sent.{sent_framing, sent_head}
 use Rattle.ts_request.specs.Text.{Text}
 use Rattle.ts_request.specs.Upload.{LacksUpload}
@@ -27,7 +33,8 @@ use Rattle.ts_request.specs.declared.passage.Passage.{Passage}
 use Rattle.ts_request.specs.declared.stage.Stage.{Stage}
 use Rattle.ts_request.specs.declared.stage.Stage.TheVariants as S
 use Rattle.ts_request.proofs.Steps.{ends_if, lacks_if, plan_inside, stays_inside}
-use Rattle.ts_request.proofs.Told.{Unlines, carried_grown, taken_grown, told_is, unlines_framed, unlines_plain}
+use Rattle.ts_request.proofs.Told.{Unlines, carried_grown, taken_grown, told_is, unlines_framed}
+use Rattle.ts_request.proofs.Told.{unlines_plain}
 
 -- ---- answers
 
@@ -41,7 +48,8 @@ refuses_asked U.Refused R Q r = inr r
 refuses_asked U.NoMemory R Q r = tt
 
 counts_asked : (a : Uploaded) (c c' o o' d d' p p' : Look) → UploadCounts a c c' o o' → d.waits ≡ c.waits
-    → d'.waits ≡ c'.waits → d.faults ≡ c.faults → d'.faults ≡ c'.faults → p.waits ≡ o.waits → p'.waits ≡ o'.waits
+    → d'.waits ≡ c'.waits → d.faults ≡ c.faults → d'.faults ≡ c'.faults → p.waits ≡ o.waits → p'.waits ≡
+    o'.waits
     → p.faults ≡ o.faults → p'.faults ≡ o'.faults → UploadCounts (answer_asked a) d d' p p'
 counts_asked U.Done c c' o o' d d' p p' counts a b e f g h i j = tt
 counts_asked U.More c c' o o' d d' p p' counts a b e f g h i j = tt
@@ -74,14 +82,17 @@ was_done U.Refused is = absurd (false≢true is)
 was_done U.NoMemory is = absurd (false≢true is)
 
 -- want of memory is that of the origin's own
-lacks_asked : (a : Uploaded) (c c' o o' : Look) (R : Type 0) → answer_asked a ≡ U.NoMemory → UploadLacks a c c' o o'
+lacks_asked : (a : Uploaded) (c c' o o' : Look) (R : Type 0) → answer_asked a ≡ U.NoMemory → UploadLacks a c
+    c' o o'
     → ((c' ≡ c) → (o' ≡ o) → (is_done a ≡ false) → R) → R
 lacks_asked U.NoMemory c c' o o' R is lacks go = go lacks.0 lacks.1 refl
 lacks_asked U.Done c c' o o' R is lacks go = absurd (let wrong : U.More ≡ U.NoMemory = is in cc)
 lacks_asked U.More c c' o o' R is lacks go = absurd (let wrong : U.More ≡ U.NoMemory = is in cc)
 lacks_asked U.Again c c' o o' R is lacks go = absurd (let wrong : U.Again ≡ U.NoMemory = is in cc)
-lacks_asked U.ClientFailed c c' o o' R is lacks go = absurd (let wrong : U.ClientFailed ≡ U.NoMemory = is in cc)
-lacks_asked U.OriginFailed c c' o o' R is lacks go = absurd (let wrong : U.OriginFailed ≡ U.NoMemory = is in cc)
+lacks_asked U.ClientFailed c c' o o' R is lacks go = absurd (let wrong : U.ClientFailed ≡ U.NoMemory = is in
+    cc)
+lacks_asked U.OriginFailed c c' o o' R is lacks go = absurd (let wrong : U.OriginFailed ≡ U.NoMemory = is in
+    cc)
 lacks_asked U.Refused c c' o o' R is lacks go = absurd (let wrong : U.Refused ≡ U.NoMemory = is in cc)
 
 failed_asked : (a : Uploaded) → upload_failed (answer_asked a) ≡ upload_failed a
@@ -104,7 +115,8 @@ waits_asked U.NoMemory = refl
 
 -- ---- what is left
 
-pub inside_less : (ct ot : Bool) (i j : Option ℕ) (a b : ℕ) → Fewer i j → b ≤ a → Fewer (left_if ct ot i a) (left_if ct ot j b)
+pub inside_less : (ct ot : Bool) (i j : Option ℕ) (a b : ℕ) → Fewer i j → b ≤ a → Fewer (left_if ct ot i a)
+    (left_if ct ot j b)
 inside_less false ot i j a b fell less = tt
 inside_less true false i j a b fell less = tt
 inside_less true true None j a b fell less = tt
@@ -145,7 +157,8 @@ falls_asked ct ot U.NoMemory i j m n w w' is falls =
     (inside_calm ct ot i j w w' falls.0 (omega (arith, is)), falls.1)
 
 -- what is not told is not measured
-falls_untold : (a : Uploaded) (i j m n : Option ℕ) → UploadFalls a i j m n → UploadFalls (answer_asked a) None None m n
+falls_untold : (a : Uploaded) (i j m n : Option ℕ) → UploadFalls a i j m n → UploadFalls (answer_asked a)
+    None None m n
 falls_untold U.Done i j m n falls = (tt, falls.1)
 falls_untold U.More i j m n falls = (tt, falls.1)
 falls_untold U.Again i j m n falls = (tt, falls.1)
@@ -164,7 +177,8 @@ most_same (S.Uploading framing) t l l' all left =
     ap (λ (xs : List ℕ). length (body_left_by (S.Uploading framing) t xs)) left
 
 module _ {C O P : Type 0} (client : link.Ghosts C) (origin : link.Ghosts O) (inner : upstream.Ghosts O C)
-    (stage : transform.Ghosts P TransformLine) (f : FrontSeen C) (c : Carrier O P) (k : C) (o : O) (a : Uploaded)
+    (stage : transform.Ghosts P TransformLine) (f : FrontSeen C) (c : Carrier O P) (k : C) (o : O) (a :
+    Uploaded)
     (pair : CarrierPair client origin inner stage f c) (begun : IsBegun c.head) (none : c.out ≡ [])
     (unasked : c.asked ≡ false)
     (stay : StayPaired client.still origin.still inner.paired inner.refuses f.client k c.origin o)
@@ -194,11 +208,13 @@ module _ {C O P : Type 0} (client : link.Ghosts C) (origin : link.Ghosts O) (inn
   handed_same : client.tells ≡ true → handed_of client.look front_on ≡ handed_of client.look f
   handed_same told = ap (λ xs. body_given_by f.text.stage f.text xs) (bytes.client told).given
 
-  front_client : client.tells ≡ true → UploadsClient (front_look client.look f) (front_look client.look front_on)
+  front_client : client.tells ≡ true → UploadsClient (front_look client.look f) (front_look client.look
+      front_on)
   front_client told =
       let of = bytes.client told in
       record {
-        all = λ i. given_by f.text.stage f.text (of.given i) ++ left_by f.text.stage f.text (left_same told i);
+        all = λ i. given_by f.text.stage f.text (of.given i) ++ left_by f.text.stage f.text (left_same told
+            i);
         given = ap (given_by f.text.stage f.text) of.given;
         taken = of.taken;
       }
@@ -250,7 +266,8 @@ module _ {C O P : Type 0} (client : link.Ghosts C) (origin : link.Ghosts O) (inn
   source_same = keeps.client.source
 
   way_on : (head : HeadState) (passage : Option (Passage P)) → IsBegun head
-      → WayBy client origin inner stage head passage f c → WayBy client origin inner stage head passage front_on asked_on
+      → WayBy client origin inner stage head passage f c → WayBy client origin inner stage head passage
+      front_on asked_on
   way_on H.Held passage (len, line, is) way = absurd (let wrong : H.Held ≡ H.Sent len line = is in cc)
   way_on (H.Sent len line) None is way = record {
     line_is = way.line_is;
@@ -275,11 +292,13 @@ module _ {C O P : Type 0} (client : link.Ghosts C) (origin : link.Ghosts O) (inn
             (unbehind len (sent_head way.framing (request_lines c)) way.text c empty (way.stands told)));
       }
 
-  refuses_before : (list : List ℕ) → CarrierRefuses inner.refuses asked_on list → CarrierRefuses inner.refuses c list
+  refuses_before : (list : List ℕ) → CarrierRefuses inner.refuses asked_on list → CarrierRefuses
+      inner.refuses c list
   refuses_before list (inl r) = inl r
   refuses_before list (inr r) = inr (stay.refusal.before list r)
 
-  refuses_still : (list : List ℕ) → CarrierRefuses inner.refuses c list → CarrierRefuses inner.refuses asked_on list
+  refuses_still : (list : List ℕ) → CarrierRefuses inner.refuses c list → CarrierRefuses inner.refuses
+      asked_on list
   refuses_still list (inl r) = inl r
   refuses_still list (inr r) = inr (stay.refusal.still list r)
 
@@ -292,7 +311,8 @@ module _ {C O P : Type 0} (client : link.Ghosts C) (origin : link.Ghosts O) (inn
     acts = pair.acts;
     way = way_on c.head c.passage begun pair.way;
     own_done = λ is told refused.
-        subst (λ (x : Uploaded). UploadRefuses x (inner.refuses c.origin (source_of client.look f))) (was_done a is)
+        subst (λ (x : Uploaded). UploadRefuses x (inner.refuses c.origin (source_of client.look f)))
+        (was_done a is)
         (causes.refusal told)
         (subst (λ (list : List ℕ). inner.refuses c.origin list) source_same (stay.refusal.before _ refused));
     done = λ over. absurd (not_over over);
@@ -309,11 +329,15 @@ module _ {C O P : Type 0} (client : link.Ghosts C) (origin : link.Ghosts O) (inn
   tells_by : (len line : ℕ) (sent : List ℕ → List ℕ) (told : origin.tells ≡ true) → Unlines len line sent
       → StandsFirst origin.look len sent (own_of origin.look c) c → TellsAsked (H.Sent len line) told
   tells_by len line sent told unlines s = (
-    taken_grown len line sent (own_of origin.look c) (own_of origin.look asked_on) s.head (own_of origin.look c)
-        (bytes.origin told).more (all_sent origin.look c) (all_sent origin.look asked_on) unlines s.long s.text
+    taken_grown len line sent (own_of origin.look c) (own_of origin.look asked_on) s.head (own_of origin.look
+        c)
+        (bytes.origin told).more (all_sent origin.look c) (all_sent origin.look asked_on) unlines s.long
+        s.text
         (sent_more told),
-    carried_grown len line sent (own_of origin.look c) (own_of origin.look asked_on) s.head (own_of origin.look c)
-        (bytes.origin told).more (all_sent origin.look c) (all_sent origin.look asked_on) unlines s.long s.text
+    carried_grown len line sent (own_of origin.look c) (own_of origin.look asked_on) s.head (own_of
+        origin.look c)
+        (bytes.origin told).more (all_sent origin.look c) (all_sent origin.look asked_on) unlines s.long
+        s.text
         (sent_more told),
   )
 
@@ -325,10 +349,12 @@ module _ {C O P : Type 0} (client : link.Ghosts C) (origin : link.Ghosts O) (inn
   tells_on (H.Sent len line) (Some p) told is way =
       tells_by len line (sent_head way.framing (request_lines c)) told
       (unlines_framed len line (sent_framing way.framing (request_lines c)) way.line_is)
-      (unbehind len (sent_head way.framing (request_lines c)) way.text c (way.before unasked) (way.stands told))
+      (unbehind len (sent_head way.framing (request_lines c)) way.text c (way.before unasked) (way.stands
+      told))
 
   asked_origin : (told : origin.tells ≡ true)
-      → UploadsOrigin (carrier_look origin.tells origin.look c) (carrier_look origin.tells origin.look asked_on)
+      → UploadsOrigin (carrier_look origin.tells origin.look c) (carrier_look origin.tells origin.look
+      asked_on)
   asked_origin told =
       let of = bytes.origin told in
       let tells = tells_on c.head c.passage told begun pair.way in
@@ -347,7 +373,8 @@ module _ {C O P : Type 0} (client : link.Ghosts C) (origin : link.Ghosts O) (inn
   most = body_most f.text (client.look f.client)
 
   most_on : client.tells ≡ true → body_most f.text (client.look k) ≡ most
-  most_on told = most_same f.text.stage f.text (client.look f.client) (client.look k) (bytes.client told).all (left_same told)
+  most_on told = most_same f.text.stage f.text (client.look f.client) (client.look k) (bytes.client told).all
+      (left_same told)
 
   work_by : (head : HeadState) → IsBegun head → (n : ℕ)
       → work_left stage.rest n head asked_on + 1 ≡ work_left stage.rest n head c + to_come (is_done a)
@@ -369,7 +396,8 @@ module _ {C O P : Type 0} (client : link.Ghosts C) (origin : link.Ghosts O) (inn
           (both (client.look f.client).agains (origin.look c.origin).agains)
           (both (client.look k).agains (origin.look o).agains)
       by_told true told =
-          subst (λ (n : ℕ). UploadFalls (answer_asked a) (left_if true origin.tells (inner.upload_left f.client c.origin)
+          subst (λ (n : ℕ). UploadFalls (answer_asked a) (left_if true origin.tells (inner.upload_left
+          f.client c.origin)
           (work_left stage.rest most c.head c))
           (left_if true origin.tells (inner.upload_left k o) (work_left stage.rest n c.head asked_on))
           (both (client.look f.client).agains (origin.look c.origin).agains)
@@ -377,7 +405,8 @@ module _ {C O P : Type 0} (client : link.Ghosts C) (origin : link.Ghosts O) (inn
           (falls_asked true origin.tells a (inner.upload_left f.client c.origin) (inner.upload_left k o) _ _
           (work_left stage.rest most c.head c) (work_left stage.rest most c.head asked_on)
           (work_by c.head begun most) falls)
-      by_told false told = falls_untold a (inner.upload_left f.client c.origin) (inner.upload_left k o) _ _ falls
+      by_told false told = falls_untold a (inner.upload_left f.client c.origin) (inner.upload_left k o) _ _
+          falls
 
   pub ask_step : UploadsStep client origin inner stage (answer_asked a) f front_on c asked_on
   ask_step =
@@ -394,12 +423,14 @@ module _ {C O P : Type 0} (client : link.Ghosts C) (origin : link.Ghosts O) (inn
         };
         causes = record {
           refusal = λ told. refuses_asked a _ _ (causes.refusal told);
-          counts = counts_asked a (client.look f.client) (client.look k) (origin.look c.origin) (origin.look o)
+          counts = counts_asked a (client.look f.client) (client.look k) (origin.look c.origin) (origin.look
+              o)
               fl gl cl dl causes.counts refl refl refl refl refl refl refl refl;
           lacks = lacks_if (answer_asked a) fl gl cl dl (λ is.
               lacks_asked a (client.look f.client) (client.look k) (origin.look c.origin) (origin.look o)
               ((gl ≡ fl) × (dl ≡ cl)) is causes.lacks (λ same also still. (
-                ap (λ l. record (Rattle.ts_request.specs.Front.shown_through f.text l) { reads = f.reads }) same,
+                ap (λ l. record (Rattle.ts_request.specs.Front.shown_through f.text l) { reads = f.reads })
+                    same,
                 ap (λ l. look_over origin.tells l c) also,
               )));
           ends = ends_if (answer_asked a) dl (λ is. absurd (never_done a is));
@@ -432,8 +463,10 @@ module _ {C O P : Type 0} (client : link.Ghosts C) (origin : link.Ghosts O) (inn
             let went = sure clients (plan_inside (origin.look c.origin).plan IsSurePlan origins) in
             record {
               faults = λ never.
-                  let none = went.faults (stays_inside (origin.look c.origin).plan (λ q. q.leave ≡ None) never) in
+                  let none = went.faults (stays_inside (origin.look c.origin).plan (λ q. q.leave ≡ None)
+                  never) in
                   (failed_asked a ∙ none.0, none.1, none.2);
-              waits = λ still also. waits_asked a ∙ went.waits still (plan_inside (origin.look c.origin).plan _ also);
+              waits = λ still also. waits_asked a ∙ went.waits still (plan_inside (origin.look c.origin).plan
+                  _ also);
             };
       }

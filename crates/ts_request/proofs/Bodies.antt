@@ -1,5 +1,7 @@
--- The steps of a body's way that call no link: a piece is framed, a stage works, the end is framed, a block is fed.
-use Rattle.std.proofs.Common.{◌≡◌, ◌≢◌, ℕ, ◌+◌, ◌*◌, ◌≤◌, inl, List, [], ◌∷◌, ◌++◌, length, Bool, true, false, refl, sym, ap, subst, ◌∙◌, arith, append_assoc}
+-- The steps of a body's way that call no link: a piece is framed, a stage works, the end is framed, a block
+-- is fed.
+use Rattle.std.proofs.Common.{◌≡◌, ◌≢◌, ℕ, ◌+◌, ◌*◌, ◌≤◌, inl, List, [], ◌∷◌, ◌++◌, length, Bool, true, false}
+use Rattle.std.proofs.Common.{refl, sym, ap, subst, ◌∙◌, arith, append_assoc}
 use Rattle.std.specs.Prelude.{Option, Some, None}
 use Rattle.std.proofs.lemmas.Bool.{false≢true, true≢false}
 use Rattle.std.proofs.lemmas.List.{append-nil}
@@ -24,11 +26,13 @@ use Rattle.ts_wire.specs.declared.body.BodyState.TheVariants as B
 use Rattle.ts_wire.specs.declared.frames.Mode.{Mode}
 use Rattle.ts_wire.specs.declared.frames.Mode.TheVariants as M
 use Rattle.ts_wire.specs.Frames.{end_of}
-use Rattle.ts_request.specs.BodyWay.{Writes, end_cost, more_comes, pass_cost, passage_left, to_come, to_read, write_cost}
+use Rattle.ts_request.specs.BodyWay.{Writes, end_cost, more_comes, pass_cost, passage_left, to_come, to_read}
+use Rattle.ts_request.specs.BodyWay.{write_cost}
 use Rattle.ts_request.specs.Carried.{UploadsStep}
 use Rattle.ts_request.specs.Carrying.{carrier_look, request_lines, without_line}
 use Rattle.ts_request.specs.Front.{FrontSeen, body_most}
-use Rattle.ts_request.specs.Pairing.{CarrierPair, CarrierRefuses, IsEnded, SendsBody, WayBy, all_sent, carrier_left, handed_of, left_if, own_of, source_of, way_left, work_left}
+use Rattle.ts_request.specs.Pairing.{CarrierPair, CarrierRefuses, IsEnded, SendsBody, WayBy, all_sent}
+use Rattle.ts_request.specs.Pairing.{carrier_left, handed_of, left_if, own_of, source_of, way_left, work_left}
 use Rattle.ts_request.specs.PassageSteps.{Stalls}
 use Rattle.ts_request.specs.Sent.{sent_framing, sent_head}
 use Rattle.ts_request.specs.declared.carrier.Carrier.{Carrier}
@@ -68,7 +72,8 @@ calm_work true true (Some k) a b less = omega (arith, less)
 
 pub passes_sum : (ls : List TransformLine) (m n : ℕ) → passes ls (m + n) ≡ passes ls m + passes ls n
 passes_sum [] m n = refl
-passes_sum (l ∷ ls) m n = let rest : passes ls (m + n) ≡ passes ls m + passes ls n = passes_sum ls m n in omega (arith, rest)
+passes_sum (l ∷ ls) m n = let rest : passes ls (m + n) ≡ passes ls m + passes ls n = passes_sum ls m n in
+    omega (arith, rest)
 
 passes_least : (ls : List TransformLine) (n : ℕ) → n ≤ passes ls n
 passes_least [] n = omega arith
@@ -76,14 +81,18 @@ passes_least (l ∷ ls) n = omega arith
 
 pub passes_less : (ls : List TransformLine) (m n : ℕ) → m ≤ n → passes ls m ≤ passes ls n
 passes_less [] m n less = less
-passes_less (l ∷ ls) m n less = let rest : passes ls m ≤ passes ls n = passes_less ls m n less in omega (arith, rest, less)
+passes_less (l ∷ ls) m n less = let rest : passes ls m ≤ passes ls n = passes_less ls m n less in omega
+    (arith, rest, less)
 
 stages_within : {P : Type 0} (ss : List (Stage P)) (ls : List TransformLine) (n : ℕ) → length ss ≤ length ls
     → stage_passes ss n ≤ passes ls n
 stages_within [] ls n few = passes_least ls n
 stages_within (s ∷ ss) [] n few = absurd (omega (arith, few))
 stages_within (s ∷ ss) (l ∷ ls) n few =
-    let rest : stage_passes ss n ≤ passes ls n = stages_within ss ls n (omega (arith, few)) in omega (arith, rest)
+    let rest : stage_passes ss n ≤ passes ls n = stages_within ss ls n (omega (arith, few)) in omega (
+      arith,
+      rest,
+    )
 
 -- what a chain has left to do rises by as much as what came to it passes its boundaries
 pub given_more : {P : Type 0} (lines : List TransformLine) (rest : P → List ℕ → List ℕ) (c d : ChainState P)
@@ -99,7 +108,8 @@ given_more lines rest c d some of stages first =
     let same : left_to_do rest d [] ≡ passing rest c.stages ((c.first ++ some) ++ []) =
     λ i. passing rest (stages i) (first i ++ []) in
     sum (left_to_do rest d []) (passing rest c.stages ((c.first ++ some) ++ []))
-    (passing rest c.stages (c.first ++ [])) (stage_passes c.stages (length some)) (passes lines (length some)) same more
+    (passing rest c.stages (c.first ++ [])) (stage_passes c.stages (length some)) (passes lines (length
+    some)) same more
     within
   where
     sum : (now was before step most : ℕ) → now ≡ was → was ≤ before + step → step ≤ most → now ≤ before + most
@@ -163,7 +173,13 @@ pub framed_cost : (out out' frame n left left' read ended came : ℕ) → out' �
     → left' + n ≡ left → 1 ≤ n
     → write_cost * out' + (read + (pass_cost * left' + end_cost * ended + came)) + 1
     ≤ write_cost * out + (read + (pass_cost * left + end_cost * ended + came))
-framed_cost out out' frame n left left' read ended came grows short taken some = omega (arith, grows, short, taken, some)
+framed_cost out out' frame n left left' read ended came grows short taken some = omega (
+  arith,
+  grows,
+  short,
+  taken,
+  some,
+)
 
 pub worked_cost : (out left left' read ended came : ℕ) → left' + 1 ≤ left
     → write_cost * out + (read + (pass_cost * left' + end_cost * ended + came)) + 1
@@ -175,7 +191,8 @@ pub ended_cost : (out out' frame left read came : ℕ) → out' ≡ out + frame 
     ≤ write_cost * out + (read + (pass_cost * left + end_cost * to_come false + came))
 ended_cost out out' frame left read came grows short = omega (arith, grows, short)
 
-pub fed_cost : (lines : List TransformLine) (out most held held' piece part some left left' ended came came' : ℕ)
+pub fed_cost : (lines : List TransformLine) (out most held held' piece part some left left' ended came came'
+    : ℕ)
     → held ≡ piece + held' → some ≤ part → part ≤ piece → left' ≤ left + passes lines some
     → came' + 1 ≤ came + piece
     → write_cost * out + (to_read lines most held' + (pass_cost * left' + end_cost * ended + came')) + 1
@@ -184,7 +201,11 @@ fed_cost lines out most held held' piece part some left left' ended came came' s
     let turned : most + held ≡ piece + (most + held') = omega (arith, split) in
     let all : passes lines (most + held) ≡ passes lines piece + passes lines (most + held') =
     ap (passes lines) turned ∙ passes_sum lines piece (most + held') in
-    let more : passes lines some ≤ passes lines piece = passes_less lines some piece (omega (arith, fewer, within)) in
+    let more : passes lines some ≤ passes lines piece = passes_less lines some piece (omega (
+      arith,
+      fewer,
+      within,
+    )) in
     omega (arith, split, all, more, rose, moved)
 
 pub lost_cost : (out read left ended came came' : ℕ) → came' ≤ came
@@ -196,7 +217,8 @@ module _ {C O P : Type 0} (client : link.Ghosts C) (origin : link.Ghosts O) (inn
     (stage : transform.Ghosts P TransformLine) (client_still : (c : C) → client.still c c)
     (origin_still : (o : O) → origin.still o o) where
   -- a body's way is that of a begun upload
-  way_by : (f : FrontSeen C) (c : Carrier O P) (p : Passage P) (head : HeadState) (passage : Option (Passage P))
+  way_by : (f : FrontSeen C) (c : Carrier O P) (p : Passage P) (head : HeadState) (passage : Option (Passage
+      P))
       → c.passage ≡ passage → passage ≡ Some p → WayBy client origin inner stage head passage f c
       → (len : ℕ) × (line : ℕ) × (head ≡ H.Sent len line) × SendsBody client origin inner stage len line p f c
   way_by f c p H.Held passage same is way =
@@ -213,16 +235,19 @@ module _ {C O P : Type 0} (client : link.Ghosts C) (origin : link.Ghosts O) (inn
 
   pub way_body : (f : FrontSeen C) (c : Carrier O P) (p : Passage P) → c.passage ≡ Some p
       → CarrierPair client origin inner stage f c
-      → (len : ℕ) × (line : ℕ) × (c.head ≡ H.Sent len line) × SendsBody client origin inner stage len line p f c
+      → (len : ℕ) × (line : ℕ) × (c.head ≡ H.Sent len line) × SendsBody client origin inner stage len line p
+      f c
   way_body f c p is pair = way_by f c p c.head c.passage refl is pair.way
 
   -- nothing is done: the answer alone is given
   pub idle_step : (f : FrontSeen C) (c : Carrier O P) (answer : Uploaded) → is_quiet answer ≡ true
       → (answer ≡ U.More → ⊥) → (answer ≡ U.Done → c.over ≡ true)
-      → (client.tells ≡ true → UploadRefuses answer (CarrierRefuses inner.refuses c (source_of client.look f)))
+      → (client.tells ≡ true → UploadRefuses answer (CarrierRefuses inner.refuses c (source_of client.look
+      f)))
       → CarrierPair client origin inner stage f c → UploadsStep client origin inner stage answer f f c c
   idle_step f c answer quiet still done refusal pair =
-      quiet_step client origin inner stage client_still origin_still f c c.out c.inbox c.head c.asked c.over c.passage
+      quiet_step client origin inner stage client_still origin_still f c c.out c.inbox c.head c.asked c.over
+      c.passage
       answer quiet pair refusal
       (λ told. record {
         more = [];
@@ -236,7 +261,8 @@ module _ {C O P : Type 0} (client : link.Ghosts C) (origin : link.Ghosts O) (inn
       (asked : c.asked ≡ true) (unended : p.ended ≡ false) (is : c.passage ≡ Some p)
       (pair : CarrierPair client origin inner stage f c) where
     abbrev pub on_way : Carrier O P
-    on_way = moved_on client origin inner stage client_still origin_still f c out inbox c.head c.asked c.over (Some q)
+    on_way = moved_on client origin inner stage client_still origin_still f c out inbox c.head c.asked c.over
+        (Some q)
 
     not_over : c.over ≡ true → ⊥
     not_over over =
@@ -244,7 +270,8 @@ module _ {C O P : Type 0} (client : link.Ghosts C) (origin : link.Ghosts O) (inn
         (pair.done over).ended)
 
     pub module_way : (len : ℕ) (line : ℕ) → c.head ≡ H.Sent len line
-        → SendsBody client origin inner stage len line q f on_way → CarrierPair client origin inner stage f on_way
+        → SendsBody client origin inner stage len line q f on_way → CarrierPair client origin inner stage f
+        on_way
     module_way len line head_is way = record {
       inside = pair.inside;
       acts = pair.acts;
@@ -253,7 +280,8 @@ module _ {C O P : Type 0} (client : link.Ghosts C) (origin : link.Ghosts O) (inn
       done = λ over. absurd (not_over over);
     }
 
-    module _ (len line : ℕ) (head_is : c.head ≡ H.Sent len line) (b : SendsBody client origin inner stage len line p f c)
+    module _ (len line : ℕ) (head_is : c.head ≡ H.Sent len line) (b : SendsBody client origin inner stage len
+        line p f c)
         (grows : out ≡ c.out ++ more) where
       sent_grows : (origin.look c.origin).taken ++ out ≡ all_sent origin.look c ++ more
       sent_grows = ap (λ xs. (origin.look c.origin).taken ++ xs) grows
@@ -281,7 +309,8 @@ module _ {C O P : Type 0} (client : link.Ghosts C) (origin : link.Ghosts O) (inn
               head = s.head;
               long = s.long;
               text = sent_grows ∙ ap (λ xs. xs ++ more) s.text
-                  ∙ append_assoc (sent_head b.framing (request_lines c) s.head) (own_of origin.look c ++ b.text) more
+                  ∙ append_assoc (sent_head b.framing (request_lines c) s.head) (own_of origin.look c ++
+                  b.text) more
                   ∙ ap (λ xs. sent_head b.framing (request_lines c) s.head ++ xs)
                   (append_assoc (own_of origin.look c) b.text more);
             };
@@ -289,7 +318,8 @@ module _ {C O P : Type 0} (client : link.Ghosts C) (origin : link.Ghosts O) (inn
 
       -- and more of it is told
       tells_on : origin.tells ≡ true
-          → TellsMore client origin inner stage client_still origin_still f c out inbox c.head c.asked c.over (Some q)
+          → TellsMore client origin inner stage client_still origin_still f c out inbox c.head c.asked c.over
+          (Some q)
       tells_on told =
           let s = b.stands told in
           let said = sent_framing b.framing (request_lines c) in
@@ -301,9 +331,11 @@ module _ {C O P : Type 0} (client : link.Ghosts C) (origin : link.Ghosts O) (inn
                 (taken_grown len line (sent_head b.framing (request_lines c)) (own_of origin.look c)
                 (own_of origin.look c) s.head (own_of origin.look c ++ b.text) more (all_sent origin.look c)
                 ((origin.look c.origin).taken ++ out) unlines s.long s.text sent_grows);
-            carried = subst (λ (h : HeadState). Rattle.ts_request.specs.Carrying.behind_head h (own_of origin.look c)
+            carried = subst (λ (h : HeadState). Rattle.ts_request.specs.Carrying.behind_head h (own_of
+                origin.look c)
                 ((origin.look c.origin).taken ++ out)
-                ≡ Rattle.ts_request.specs.Carrying.behind_head h (own_of origin.look c) (all_sent origin.look c) ++ more)
+                ≡ Rattle.ts_request.specs.Carrying.behind_head h (own_of origin.look c) (all_sent origin.look
+                c) ++ more)
                 (sym head_is)
                 (carried_grown len line (sent_head b.framing (request_lines c)) (own_of origin.look c)
                 (own_of origin.look c) s.head (own_of origin.look c ++ b.text) more (all_sent origin.look c)
@@ -319,7 +351,8 @@ module _ {C O P : Type 0} (client : link.Ghosts C) (origin : link.Ghosts O) (inn
           + (to_read (request_lines c) most (length c.inbox) + passage_left stage.rest p)
 
       abbrev pub cost_after : ℕ
-      cost_after = write_cost * length out + (to_read (request_lines c) most (length inbox) + passage_left stage.rest q)
+      cost_after = write_cost * length out + (to_read (request_lines c) most (length inbox) + passage_left
+          stage.rest q)
 
       work_before : work_left stage.rest most c.head c ≡ cost_before + (to_come c.asked + to_come c.over)
       work_before =
@@ -342,14 +375,16 @@ module _ {C O P : Type 0} (client : link.Ghosts C) (origin : link.Ghosts O) (inn
           sum a b c = omega arith
 
       fewer_on : cost_after + 1 ≤ cost_before
-          → Fewer (carrier_left client origin inner stage f c) (carrier_left client origin inner stage f on_way)
+          → Fewer (carrier_left client origin inner stage f c) (carrier_left client origin inner stage f
+          on_way)
       fewer_on less =
           less_work client.tells origin.tells (inner.upload_left f.client c.origin)
           (work_left stage.rest most c.head c) (work_left stage.rest most c.head on_way)
           (let before = work_before in let after = work_after in omega (arith, before, after, less))
 
       calm_on : cost_after ≤ cost_before
-          → NoMore (carrier_left client origin inner stage f c) (carrier_left client origin inner stage f on_way)
+          → NoMore (carrier_left client origin inner stage f c) (carrier_left client origin inner stage f
+          on_way)
       calm_on less =
           calm_work client.tells origin.tells (inner.upload_left f.client c.origin)
           (work_left stage.rest most c.head c) (work_left stage.rest most c.head on_way)
@@ -358,10 +393,12 @@ module _ {C O P : Type 0} (client : link.Ghosts C) (origin : link.Ghosts O) (inn
       -- a step of the way that moves something
       pub more_step : (fed read : List ℕ) → q.mode ≡ p.mode
           → (client.tells ≡ true → handed_of client.look f ≡ fed ++ inbox)
-          → Writes stage (request_lines c) b.framing fed read (b.text ++ more) q → cost_after + 1 ≤ cost_before
+          → Writes stage (request_lines c) b.framing fed read (b.text ++ more) q → cost_after + 1 ≤
+          cost_before
           → UploadsStep client origin inner stage U.More f f c on_way
       more_step fed read mode came writes less =
-          quiet_step client origin inner stage client_still origin_still f c out inbox c.head c.asked c.over (Some q)
+          quiet_step client origin inner stage client_still origin_still f c out inbox c.head c.asked c.over
+          (Some q)
           U.More refl (module_way len line head_is (sends_on fed read mode came writes)) (λ told. tt) tells_on
           (λ e. absurd (let wrong : U.More ≡ U.NoMemory = e in cc))
           (λ e. absurd (let wrong : U.More ≡ U.Done = e in cc)) (λ e. fewer_on less)
@@ -373,8 +410,10 @@ module _ {C O P : Type 0} (client : link.Ghosts C) (origin : link.Ghosts O) (inn
           → Writes stage (request_lines c) b.framing fed read (b.text ++ more) q → cost_after ≤ cost_before
           → out ≡ c.out → UploadsStep client origin inner stage U.NoMemory f f c on_way
       lost_step fed read mode came writes less same =
-          quiet_step client origin inner stage client_still origin_still f c out inbox c.head c.asked c.over (Some q)
-          U.NoMemory refl (module_way len line head_is (sends_on fed read mode came writes)) (λ told. tt) tells_on
+          quiet_step client origin inner stage client_still origin_still f c out inbox c.head c.asked c.over
+          (Some q)
+          U.NoMemory refl (module_way len line head_is (sends_on fed read mode came writes)) (λ told. tt)
+          tells_on
           (λ e. ap (λ xs. carrier_look origin.tells origin.look (record c { out = xs })) same)
           (λ e. absurd (let wrong : U.NoMemory ≡ U.Done = e in cc))
           (λ e. absurd (let wrong : U.NoMemory ≡ U.More = e in cc)) (calm_on less)

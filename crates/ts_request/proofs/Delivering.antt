@@ -17,7 +17,8 @@ use Rattle.ts_request.specs.BodyWay.{IsFrontOf}
 use Rattle.ts_request.specs.Carrying.{IsFreshCarrier, behind_head, request_lines, without_line}
 use Rattle.ts_request.specs.Delivered.{Delivers, Took, plain, upload, upload_text}
 use Rattle.ts_request.specs.Front.{FrontSeen, fresh_front}
-use Rattle.ts_request.specs.Pairing.{CarrierPair, HoldsBack, IsDone, SendsBody, SendsPlain, StandsFirst, WayBy, all_sent, handed_of, own_of, source_of}
+use Rattle.ts_request.specs.Pairing.{CarrierPair, HoldsBack, IsDone, SendsBody, SendsPlain, StandsFirst}
+use Rattle.ts_request.specs.Pairing.{WayBy, all_sent, handed_of, own_of, source_of}
 use Rattle.ts_request.specs.Sent.{sent_framing, sent_head}
 use Rattle.ts_request.specs.declared.carrier.Carrier.{Carrier}
 use Rattle.ts_request.specs.declared.carrier.HeadState.{HeadState}
@@ -55,7 +56,8 @@ module _ {C O P : Type 0} (client : link.Ghosts C) (origin : link.Ghosts O) (inn
 
   took_body : (len line : ℕ) (p : Passage P) → c.passage ≡ Some p
       → (b : SendsBody client origin inner stage len line p f c) → (s : StandsFirst origin.look len
-      (sent_head b.framing (request_lines c)) (own_of origin.look c ++ b.text) c) → Took client origin f c s.head
+      (sent_head b.framing (request_lines c)) (own_of origin.look c ++ b.text) c) → Took client origin f c
+      s.head
   took_body len line p is b s =
       let lines = request_lines c in
       let way = b.writes.way in
@@ -70,7 +72,8 @@ module _ {C O P : Type 0} (client : link.Ghosts C) (origin : link.Ghosts O) (inn
         read = b.read;
         state = state_of way.place.phase;
         body = subst (λ (x : List ℕ). BodyOf b.framing x b.read (state_of way.place.phase)) (append-nil b.fed)
-            (body_fed b.framing b.fed b.read [] way.place (state_of way.place.phase) way.is_fed refl (λ e. refl));
+            (body_fed b.framing b.fed b.read [] way.place (state_of way.place.phase) way.is_fed refl (λ e.
+            refl));
         pieces = b.writes.pieces;
         each = b.writes.each;
         fin = p.ended;
@@ -93,7 +96,8 @@ module _ {C O P : Type 0} (client : link.Ghosts C) (origin : link.Ghosts O) (inn
       })
 
   by_state : (h : HeadState) (passage : Option (Passage P)) → c.passage ≡ passage
-      → WayBy client origin inner stage h passage f c → (head : List ℕ) × Tells h head × Took client origin f c head
+      → WayBy client origin inner stage h passage f c → (head : List ℕ) × Tells h head × Took client origin f
+      c head
   by_state H.Held passage same way =
       let empty : taken ≡ [] = way.taken tells in (
         all_sent origin.look c,
@@ -104,7 +108,8 @@ module _ {C O P : Type 0} (client : link.Ghosts C) (origin : link.Ghosts O) (inn
       let s = way.stands tells in
       let text = s.text ∙ ap (λ own. s.head ++ own) none ∙ append-nil s.head in (
         s.head,
-        told_by len line (λ head. head) s.head (own_of origin.look c) (unlines_plain len line way.line_is) s.long s.text,
+        told_by len line (λ head. head) s.head (own_of origin.look c) (unlines_plain len line way.line_is)
+            s.long s.text,
         plain (front_taken s.head text) (λ over. (all_taken s.head text (pair.done over).sent, way.lacks)),
       )
   by_state (H.Sent len line) (Some p) same way =
@@ -128,7 +133,8 @@ module _ {C O P : Type 0} (client : link.Ghosts C) (origin : link.Ghosts O) (inn
 -- ---- a front and a carrier of which no call was made
 
 module _ {C O P : Type 0} (client : link.Ghosts C) (origin : link.Ghosts O) (inner : upstream.Ghosts O C)
-    (stage : transform.Ghosts P TransformLine) (f : FrontSeen C) (c : Carrier O P) (l : C) (o : O) (setup : Setup)
+    (stage : transform.Ghosts P TransformLine) (f : FrontSeen C) (c : Carrier O P) (l : C) (o : O) (setup :
+    Setup)
     (fresh : f ≡ fresh_front l) (made : IsFreshCarrier o setup c) (inside : inner.paired l o)
     (acts : ActsAsLines stage)
     (new : origin.tells ≡ true → ((origin.look o).taken ≡ []) × ((origin.look o).carried ≡ [])) where
@@ -149,7 +155,8 @@ module _ {C O P : Type 0} (client : link.Ghosts C) (origin : link.Ghosts O) (inn
     inside = subst (λ (x : O). inner.paired f.client x) (sym made.origin_is)
         (subst (λ (x : FrontSeen C). inner.paired x.client o) (sym fresh) inside);
     acts = acts;
-    way = subst (λ (h : HeadState). WayBy client origin inner stage h c.passage f c) (sym made.head) held_fresh;
+    way = subst (λ (h : HeadState). WayBy client origin inner stage h c.passage f c) (sym made.head)
+        held_fresh;
     own_done = λ asked told refused. absurd (false≢true (sym made.asked ∙ asked));
     done = λ over. absurd (false≢true (sym made.over ∙ over));
   }

@@ -1,5 +1,6 @@
 -- A carrier as a link: a read of its origin, and a write that is held.
-use Rattle.std.proofs.Common.{◌≡◌, ◌≢◌, ℕ, ◌≤◌, ◌<◌, List, [], ◌++◌, length, take, Bool, true, false, refl, sym, ap, subst, ◌∙◌, arith, append_assoc}
+use Rattle.std.proofs.Common.{◌≡◌, ◌≢◌, ℕ, ◌≤◌, ◌<◌, List, [], ◌++◌, length, take, Bool, true, false, refl}
+use Rattle.std.proofs.Common.{sym, ap, subst, ◌∙◌, arith, append_assoc}
 use Rattle.std.specs.Prelude.{IfSome, IsSomeAnd, Option, Some, None, if◌then◌else◌}
 use Rattle.std.proofs.lemmas.List.{append-nil, take_all}
 use Rattle.ts_link.specs.Counts.{one_more}
@@ -8,7 +9,8 @@ use Rattle.ts_link.specs.declared.link.Got.{Got}
 use Rattle.ts_link.specs.declared.link.Link as link
 use Rattle.ts_link.specs.declared.link.Put.{Put}
 use Rattle.ts_link.specs.declared.link.Put.TheVariants as put
-use Rattle.ts_request.specs.Carrying.{CarrierGoes, GoesOut, HoldsPiece, behind_head, look_over, plan_if, stays_plan, without_line}
+use Rattle.ts_request.specs.Carrying.{CarrierGoes, GoesOut, HoldsPiece, behind_head, look_over, plan_if}
+use Rattle.ts_request.specs.Carrying.{stays_plan, without_line}
 use Rattle.ts_request.specs.CarrierLaws.{out_stays}
 use Rattle.ts_request.specs.declared.carrier.Carrier.{Carrier}
 use Rattle.ts_request.specs.declared.carrier.HeadState.{HeadState}
@@ -76,7 +78,8 @@ module _ {O P : Type 0} (t : Bool) (l m : Look) (c : Carrier O P) (answer : Got)
     ends = r.ends;
   }
 
-pub reads_goes : {O P : Type 0} (origin : link.Ghosts O) (c : Carrier O P) (o : O) (answer : Got) (into : List ℕ)
+pub reads_goes : {O P : Type 0} (origin : link.Ghosts O) (c : Carrier O P) (o : O) (answer : Got) (into :
+    List ℕ)
     → Reads origin.tells (origin.look c.origin) (origin.look o) answer into → origin.goes c.origin o
     → CarrierGoes origin c (record c { origin = o })
 reads_goes origin c o answer into r goes = record {
@@ -117,21 +120,25 @@ lacks_memory t l piece = record {
 
 -- that is held
 module _ {O P : Type 0} (t : Bool) (l : Look) (c : Carrier O P) (piece out : List ℕ) (writes n : ℕ)
-    (held : c.head ≡ H.Held) (some : 0 < length piece) (count : n ≡ length piece) (grows : out ≡ c.out ++ piece)
+    (held : c.head ≡ H.Held) (some : 0 < length piece) (count : n ≡ length piece) (grows : out ≡ c.out ++
+    piece)
     (counted : writes ≡ one_more c.writes) where
   abbrev pub held_on : Carrier O P
   held_on = record c { out = out; writes = writes }
 
   held_text : without_line c.head (l.taken ++ out) ≡ without_line c.head (l.taken ++ c.out) ++ take n piece
   held_text =
-      subst (λ (h : HeadState). without_line h (l.taken ++ out) ≡ without_line h (l.taken ++ c.out) ++ take n piece)
+      subst (λ (h : HeadState). without_line h (l.taken ++ out) ≡ without_line h (l.taken ++ c.out) ++ take n
+      piece)
       (sym held)
       (ap (λ xs. l.taken ++ xs) grows ∙ sym (append_assoc l.taken c.out piece)
       ∙ ap (λ xs. (l.taken ++ c.out) ++ xs) (sym (take_all n piece (omega (arith, count)))))
 
-  held_behind : behind_head c.head l.carried (l.taken ++ out) ≡ behind_head c.head l.carried (l.taken ++ c.out)
+  held_behind : behind_head c.head l.carried (l.taken ++ out) ≡ behind_head c.head l.carried (l.taken ++
+      c.out)
   held_behind =
-      subst (λ (h : HeadState). behind_head h l.carried (l.taken ++ out) ≡ behind_head h l.carried (l.taken ++ c.out))
+      subst (λ (h : HeadState). behind_head h l.carried (l.taken ++ out) ≡ behind_head h l.carried (l.taken
+      ++ c.out))
       (sym held) refl
 
   text_by : (b : Bool) → b ≡ true
@@ -166,7 +173,8 @@ module _ {O P : Type 0} (t : Bool) (l : Look) (c : Carrier O P) (piece out : Lis
   }
 
 -- by the answer
-pub writes_by : {O P : Type 0} (t : Bool) (l : Look) (c : Carrier O P) (piece out : List ℕ) (writes : ℕ) (answer : Put)
+pub writes_by : {O P : Type 0} (t : Bool) (l : Look) (c : Carrier O P) (piece out : List ℕ) (writes : ℕ)
+    (answer : Put)
     → c.head ≡ H.Held → 0 < length piece → HoldsPiece c.out out c.writes writes answer piece
     → Writes t (look_over t l c) (look_over t l (record c { out = out; writes = writes })) answer piece
 writes_by t l c piece out writes (put.Took n) held some holds =
@@ -178,9 +186,11 @@ writes_by t l c piece out writes put.Again held some holds = absurd holds
 writes_by t l c piece out writes put.Failed held some holds = absurd holds
 
 fits_by : (before after : List ℕ) (writes writes' : ℕ) (answer : Put) (piece : List ℕ)
-    → HoldsPiece before after writes writes' answer piece → length before ≤ MOST_HELD → length after ≤ MOST_HELD
+    → HoldsPiece before after writes writes' answer piece → length before ≤ MOST_HELD → length after ≤
+    MOST_HELD
 fits_by before after writes writes' (put.Took n) piece holds few = holds.2
-fits_by before after writes writes' put.NoMemory piece holds few = subst (λ xs. length xs ≤ MOST_HELD) (sym holds.0) few
+fits_by before after writes writes' put.NoMemory piece holds few = subst (λ xs. length xs ≤ MOST_HELD) (sym
+    holds.0) few
 fits_by before after writes writes' put.Again piece holds few = absurd holds
 fits_by before after writes writes' put.Failed piece holds few = absurd holds
 

@@ -1,5 +1,6 @@
 -- What a carrier tells as taken: the head as it was written, and behind it all that its upload wrote.
-use Rattle.std.proofs.Common.{◌≡◌, ℕ, ◌+◌, ◌-◌, List, ◌++◌, length, take, drop, Bool, true, false, refl, sym, ap, ◌∙◌, arith, append_assoc, length-append}
+use Rattle.std.proofs.Common.{◌≡◌, ℕ, ◌+◌, ◌-◌, List, ◌++◌, length, take, drop, Bool, true, false, refl, sym}
+use Rattle.std.proofs.Common.{ap, ◌∙◌, arith, append_assoc, length-append}
 use Rattle.std.specs.Prelude.{if◌then◌else◌}
 use Rattle.std.proofs.lemmas.List.{take_at, drop_at, length-take, take-append-drop}
 use Rattle.httparse.specs.Ascii.{crlf_bytes}
@@ -36,7 +37,8 @@ unlines_framed len line said is head behind long =
     let front = length head - length crlf_bytes in
     let at : line_place len ≡ front = ap (λ n. n - length crlf_bytes) (sym long) in
     let short : length (take front head) ≡ front = omega (arith, length-take front head) in
-    ap (λ n. take n (with_framing head said ++ behind) ++ drop (n + line) (with_framing head said ++ behind)) at
+    ap (λ n. take n (with_framing head said ++ behind) ++ drop (n + line) (with_framing head said ++ behind))
+    at
     ∙ ap (λ xs. take front xs ++ drop (front + line) xs)
     (append_assoc (take front head ++ framing_line said) (drop front head) behind)
     ∙ middle_out (take front head) (framing_line said) (drop front head ++ behind) front line short (sym is)

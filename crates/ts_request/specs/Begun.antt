@@ -33,17 +33,20 @@ module _ {C O P : Type 0} (client : link.Ghosts C) (origin : link.Ghosts O) (inn
   StepsWith answer c d = (f : FrontSeen C) → CarrierPair client origin inner stage f c
       → UploadsStep client origin inner stage answer f f c d
 
-  -- The upload begins: what is seen stays, the front and the carrier still belong together, and no more is left.
+  -- The upload begins: what is seen stays, the front and the carrier still belong together, and no more is
+  -- left.
   pub record Begins (f : FrontSeen C) (c d : Carrier O P) : Type 0 where
     pub begun : IsBegun d.head
     pub pair : CarrierPair client origin inner stage f d
     pub look : carrier_look origin.tells origin.look d ≡ carrier_look origin.tells origin.look c
     pub origin_is : d.origin ≡ c.origin
     pub setup : d.setup ≡ c.setup
-    pub left : NoMore (carrier_left client origin inner stage f c) (carrier_left client origin inner stage f d)
+    pub left : NoMore (carrier_left client origin inner stage f c) (carrier_left client origin inner stage f
+        d)
 
 -- One read of the body came behind what waits.
-pub record ReadsOn {C : Type 0} (client : link.Ghosts C) (f g : FrontSeen C) (before after : List ℕ) (answer : Got) :
+pub record ReadsOn {C : Type 0} (client : link.Ghosts C) (f g : FrontSeen C) (before after : List ℕ) (answer
+    : Got) :
     Type 0 where
   pub into : List ℕ
   pub grows : after ≡ before ++ take (count_got answer) into

@@ -7,7 +7,8 @@ use Rattle.ts_link.specs.declared.link.Got.TheVariants as G
 use Rattle.ts_link.specs.declared.link.Link as link
 use Rattle.ts_link.specs.declared.octets.NoMemory.{NoMemory}
 use Rattle.ts_transform.specs.declared.transform.Transform as transform
-use Rattle.ts_upstream.specs.Uploads.{StayPaired, UploadCauses, UploadFalls, UploadKeeps, Uploads, UploadsSurely, both}
+use Rattle.ts_upstream.specs.Uploads.{StayPaired, UploadCauses, UploadFalls, UploadKeeps, Uploads}
+use Rattle.ts_upstream.specs.Uploads.{UploadsSurely, both}
 use Rattle.ts_upstream.specs.declared.upstream.Uploaded.{Uploaded}
 use Rattle.ts_upstream.specs.declared.upstream.Uploaded.TheVariants as U
 use Rattle.ts_upstream.specs.declared.upstream.Upstream as upstream

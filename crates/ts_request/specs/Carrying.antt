@@ -1,6 +1,8 @@
--- A carrier as a link: the link to the origin inside, with the head that it holds and without the framing line
+-- A carrier as a link: the link to the origin inside, with the head that it holds and without the framing
+-- line
 -- that it puts into it.
-use Rattle.std.specs.Prelude.{◌≡◌, ℕ, ◌+◌, ◌-◌, ◌≤◌, List, [], ◌++◌, length, take, drop, Bool, true, false, Option, Some, None, if◌then◌else◌}
+use Rattle.std.specs.Prelude.{◌≡◌, ℕ, ◌+◌, ◌-◌, ◌≤◌, List, [], ◌++◌, length, take, drop, Bool, true, false}
+use Rattle.std.specs.Prelude.{Option, Some, None, if◌then◌else◌}
 use Rattle.std.specs.Arc.{arc_value}
 use Rattle.httparse.specs.Ascii.{crlf_bytes}
 use Rattle.ts_config.specs.declared.setup.Setup.{Setup}
@@ -31,7 +33,8 @@ abbrev pub behind_head : HeadState → List ℕ → List ℕ → List ℕ
 behind_head H.Held carried all = carried
 behind_head (H.Sent len line) carried all = drop len (without_line (H.Sent len line) all)
 
--- the plan of a link that never leaves; of another nothing is told, since what a carrier tells as taken is ahead
+-- the plan of a link that never leaves; of another nothing is told, since what a carrier tells as taken is
+-- ahead
 -- of what its origin took
 abbrev pub plan_if : Option ℕ → Plan → Option Plan
 plan_if None p = Some p

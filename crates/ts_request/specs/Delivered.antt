@@ -1,4 +1,5 @@
--- What a carrier's origin took of a request: its head with the framing line, and behind it the frames of a front of
+-- What a carrier's origin took of a request: its head with the framing line, and behind it the frames of a
+-- front of
 -- the request lines' work on the body; and all of it once the upload is done (RFC 9112, sections 6 and 7.1).
 use Rattle.std.specs.Prelude.{◌≡◌, ℕ, ◌++◌, ◌⊎◌, List, [], Bool, true, All}
 use Rattle.ts_config.specs.declared.setup.TransformLine.{TransformLine}
@@ -34,8 +35,10 @@ pub record IsDelivered (lines : List TransformLine) (framing : Framing) (head re
   pub whole : cut_body pieces ≡ compose_lines lines read
   pub over : (state ≡ B.Ended) ⊎ ((more : List ℕ) → is_early lines (read ++ more) ≡ true)
 
--- Of a body that is framed so and of which so much came, so much was read; and what was taken is a front of the head
--- and the frames of pieces, which are a front of the lines' work: on what was read, once it has ended, and before
+-- Of a body that is framed so and of which so much came, so much was read; and what was taken is a front of
+-- the head
+-- and the frames of pieces, which are a front of the lines' work: on what was read, once it has ended, and
+-- before
 -- that on whatever begins with it. Where the upload is over it is all of it.
 pub record CarriesUpload (lines : List TransformLine) (framing : Framing) (head taken : List ℕ) (over : Bool)
     (came : List ℕ → Type 0) : Type 0 where
@@ -73,19 +76,23 @@ module _ {C O P : Type 0} (client : link.Ghosts C) (origin : link.Ghosts O) wher
         ≡ head ++ (carrier_look origin.tells origin.look c).carried
     pub took : Took f c head
 
-  -- What holds of every front and carrier that belong together, where the origin inside tells and moved no upload of
+  -- What holds of every front and carrier that belong together, where the origin inside tells and moved no
+  -- upload of
   -- its own.
   abbrev pub DeliversIfPaired : (inner : upstream.Ghosts O C) → transform.Ghosts P TransformLine → FrontSeen C
       → Carrier O P → Type 0
   DeliversIfPaired inner stage f c =
-      CarrierPair client origin inner stage f c → origin.tells ≡ true → own_of origin.look c ≡ [] → Delivers f c
+      CarrierPair client origin inner stage f c → origin.tells ≡ true → own_of origin.look c ≡ [] → Delivers
+      f c
 
 module _ {C O P : Type 0} (client : link.Ghosts C) (origin : link.Ghosts O) (inner : upstream.Ghosts O C)
     (stage : transform.Ghosts P TransformLine) where
-  -- A front and a carrier of which no call was made belong together, where the two links inside do, and the origin
+  -- A front and a carrier of which no call was made belong together, where the two links inside do, and the
+  -- origin
   -- took nothing.
   abbrev pub PairsIfFresh : FrontSeen C → Carrier O P → Type 0
   PairsIfFresh f c =
       (l : C) (o : O) (setup : Setup) → f ≡ fresh_front l → IsFreshCarrier o setup c → inner.paired l o
-      → ActsAsLines stage → (origin.tells ≡ true → ((origin.look o).taken ≡ []) × ((origin.look o).carried ≡ []))
+      → ActsAsLines stage → (origin.tells ≡ true → ((origin.look o).taken ≡ []) × ((origin.look o).carried ≡
+      []))
       → CarrierPair client origin inner stage f c

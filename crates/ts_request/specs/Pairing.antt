@@ -1,7 +1,10 @@
--- What holds of a front and a carrier that belong together: what the origin inside took, with what waits, is the
--- head of the request with its framing line, and behind it the frames of a front of the request lines' work on
+-- What holds of a front and a carrier that belong together: what the origin inside took, with what waits, is
+-- the
+-- head of the request with its framing line, and behind it the frames of a front of the request lines' work
+-- on
 -- what was read of the body (RFC 9112, sections 6 and 7.1; Developer's Guide, "Transformations").
-use Rattle.std.specs.Prelude.{◌≡◌, ℕ, ◌+◌, ◌*◌, ◌≤◌, ◌⊎◌, List, [], ◌++◌, length, Bool, true, false, Option, Some, None, ⊤}
+use Rattle.std.specs.Prelude.{◌≡◌, ℕ, ◌+◌, ◌*◌, ◌≤◌, ◌⊎◌, List, [], ◌++◌, length, Bool, true, false, Option}
+use Rattle.std.specs.Prelude.{Some, None, ⊤}
 use Rattle.ts_config.specs.declared.setup.TransformLine.{TransformLine}
 use Rattle.ts_link.specs.Link.{Look}
 use Rattle.ts_link.specs.declared.link.Link as link
@@ -11,7 +14,8 @@ use Rattle.ts_upstream.specs.declared.upstream.Upstream as upstream
 use Rattle.ts_wire.specs.Limits.{framing_limit}
 use Rattle.ts_wire.specs.Printed.{framing_line}
 use Rattle.ts_wire.specs.declared.framing.Framing.{Framing}
-use Rattle.ts_request.specs.BodyWay.{Writes, end_cost, mode_said, pass_cost, passage_left, to_come, to_read, write_cost}
+use Rattle.ts_request.specs.BodyWay.{Writes, end_cost, mode_said, pass_cost, passage_left, to_come, to_read}
+use Rattle.ts_request.specs.BodyWay.{write_cost}
 use Rattle.ts_request.specs.Carrying.{request_lines}
 use Rattle.ts_request.specs.Front.{FrontSeen, body_given, body_most}
 use Rattle.ts_request.specs.Sent.{RefusesUpload, sent_framing, sent_head}
@@ -45,7 +49,8 @@ all_sent look c = (look c.origin).taken ++ c.out
 abbrev pub own_of : {O P : Type 0} → (O → Look) → Carrier O P → List ℕ
 own_of look c = (look c.origin).carried
 
--- of what goes to the origin, so many bytes are a head, this is the head as it goes there, and this comes behind it
+-- of what goes to the origin, so many bytes are a head, this is the head as it goes there, and this comes
+-- behind it
 pub record StandsFirst {O P : Type 0} (look : O → Look) (len : ℕ) (sent : List ℕ → List ℕ) (behind : List ℕ)
     (c : Carrier O P) : Type 0 where
   pub head : List ℕ
@@ -69,7 +74,8 @@ held_left lines most =
     write_cost * (MOST_HELD + framing_limit) + 2 + (to_read lines most 0 + fresh_left lines)
 
 -- of the body's way, if it has one
-abbrev pub way_left : {P : Type 0} → List TransformLine → (P → List ℕ → List ℕ) → ℕ → ℕ → Option (Passage P) → ℕ
+abbrev pub way_left : {P : Type 0} → List TransformLine → (P → List ℕ → List ℕ) → ℕ → ℕ → Option (Passage P)
+    → ℕ
 way_left lines rest most held None = 0
 way_left lines rest most held (Some p) = to_read lines most held + passage_left rest p
 

@@ -1,10 +1,12 @@
--- What each step of a request's body leaves of the way that it goes (RFC 9112, sections 6.3 and 7.1; Developer's
+-- What each step of a request's body leaves of the way that it goes (RFC 9112, sections 6.3 and 7.1;
+-- Developer's
 -- Guide, "Transformations").
 use Rattle.std.specs.Prelude.{◌≡◌, ◌≢◌, ℕ, ◌+◌, ◌<◌, ◌≤◌, ◌++◌, List, [], length, take, true, false}
 use Rattle.std.specs.Prelude.{Option, Some, None}
 use Rattle.std.specs.Bool.{OnTrue}
 use Rattle.ts_passing.specs.Feeding.{FeedsPart}
-use Rattle.ts_transform.specs.Flow.{ChainState, IsFinished, KeepsFlow, MustWork, MustWrite, PumpsAt, Rests, TakesAway, client_wait, left_to_do}
+use Rattle.ts_transform.specs.Flow.{ChainState, IsFinished, KeepsFlow, MustWork, MustWrite, PumpsAt, Rests}
+use Rattle.ts_transform.specs.Flow.{TakesAway, client_wait, left_to_do}
 use Rattle.ts_wire.specs.declared.body.BodyState.TheVariants as B
 use Rattle.ts_wire.specs.Place.{state_of}
 use Rattle.ts_wire.specs.Frames.{IsPiece, frame_of}
@@ -43,7 +45,8 @@ pub record Works {P : Type 0} (rest : P → List ℕ → List ℕ) (soon : P →
   pub others : q ≡ record p { chain = q.chain }
 
 -- A piece of what the chain gave was framed behind what waits for the origin.
-pub record FramesPiece {P : Type 0} (rest : P → List ℕ → List ℕ) (p q : Passage P) (before after : List ℕ) : Type 0
+pub record FramesPiece {P : Type 0} (rest : P → List ℕ → List ℕ) (p q : Passage P) (before after : List ℕ) :
+    Type 0
   where
     pub piece : List ℕ
     pub good : IsPiece piece
@@ -52,7 +55,8 @@ pub record FramesPiece {P : Type 0} (rest : P → List ℕ → List ℕ) (p q : 
     pub frame : after ≡ before ++ frame_of p.mode piece
     pub others : q ≡ record p { chain = q.chain }
 
--- The chain has given all that it gives before more of the body comes, and its client has not all that it gets.
+-- The chain has given all that it gives before more of the body comes, and its client has not all that it
+-- gets.
 pub record Stalls {P : Type 0} (p : Passage P) : Type 0 where
   pub rests : Rests p.chain
   pub more : IsFinished p.chain → ⊥

@@ -1,4 +1,5 @@
-//! The link to the origin of a request with an upload: it holds the request's head until its upload begins, and
+//! The link to the origin of a request with an upload: it holds the request's head until its upload begins,
+//! and
 //! then sends it with the line that says how its body is framed, and the body behind it.
 ghost use Rattle.std.specs.Arc.{arc_value};
 ghost use Rattle.std.specs.Prelude.{◌≡◌, ◌<◌, ◌≤◌, [], length, IfOk};
@@ -24,7 +25,8 @@ pub const MOST_HELD: usize = 4_194_304;
 pub enum HeadState {
     /// It is held: no upload was called yet.
     Held,
-    /// It goes to the origin. It has `len` bytes, and with it goes a line of `line` bytes, before its last CR LF;
+    /// It goes to the origin. It has `len` bytes, and with it goes a line of `line` bytes, before its last CR
+    /// LF;
     /// none where the request has no upload.
     Sent { len: usize, line: usize },
 }
@@ -122,7 +124,8 @@ impl<O: Link, P> Link for Carrier<O, P> {
         self.origin.read(into)
     }
 
-    /// Holds the piece, until the upload begins. From then on it is as if memory lacked, and so it is where more
+    /// Holds the piece, until the upload begins. From then on it is as if memory lacked, and so it is where
+    /// more
     /// would be held than a head has.
     fn write(&mut self, piece: &[u8]) -> Put {
         match self.head {
@@ -145,7 +148,8 @@ impl<O: Link, P> Link for Carrier<O, P> {
     ghost still_on = { carrier_still_on (as_link O.tells O.look O.goes O.still) O.still_on };
 }
 
-// The head is written first, then the origin's own upload runs to its end, and then the body is carried: what waits
+// The head is written first, then the origin's own upload runs to its end, and then the body is carried: what
+// waits
 // is written, then a piece is framed, a stage works, the end is framed, a block is fed or the client is read.
 impl<C: Sourced + Drop, O: Upstream<C>, P: Transform<Line = TransformLine> + Drop> Upstream<
     Front<C>,

@@ -4,4 +4,5 @@ use Rattle.ts_request.proofs.delivery.delivered.Goals as goal
 
 pub returns : goal.returns
 returns g c pair tells none =
-    delivers g.C.Link g.O.Link g.O.Upstream g.P.Transform c.args._front.now c.args._carrier.now pair tells none
+    delivers g.C.Link g.O.Link g.O.Upstream g.P.Transform c.args._front.now c.args._carrier.now pair tells
+    none

@@ -15,7 +15,10 @@ returns g c =
     (Rattle.ts_request.specs.Carried.answer_asked asked.result) front x old
     (record old { origin = asked.new.origin; asked = c.is_done-carrier.result })) (sym asked.ensures.text)
     (subst (λ b. UploadsStep g.C.Link g.O.Link g.O.Upstream g.P.Transform
-    (Rattle.ts_request.specs.Carried.answer_asked asked.result) front (record front { client = asked.new.self.client })
+    (Rattle.ts_request.specs.Carried.answer_asked asked.result) front (record front {
+      client =
+          asked.new.self.client;
+    })
     old (record old { origin = asked.new.origin; asked = b })) (sym c.is_done-carrier.ensures)
     (ask_step g.C.Link g.O.Link g.O.Upstream g.P.Transform front old asked.new.self.client asked.new.origin
     asked.result c.requires.pair c.requires.begun c.requires.none c.requires.waits asked.ensures.paired

@@ -25,7 +25,8 @@ returns-clause-ok g c f pair uploading =
     (subst (λ (ls : List TransformLine). IsFreshPassage g.P.Transform ls c.args.framing c.mode_said.result
     c.in_ok-passage.passage) lines c.in_ok-passage.ensures) in
     let lens = line_long old.out c.in_ok-out.out (sent_framing c.args.framing (request_lines old)) text in
-    begins_body g.C.Link g.O.Link g.O.Upstream g.P.Transform f old c.requires.held pair c.args.framing uploading
+    begins_body g.C.Link g.O.Link g.O.Upstream g.P.Transform f old c.requires.held pair c.args.framing
+    uploading
     c.in_ok-out.out text c.in_ok-passage.passage fresh c.len-len.result c.saturating_sub-line.result
     (sym c.len-len.ensures)
     (let bytes = ap length c.bytes.ensures in

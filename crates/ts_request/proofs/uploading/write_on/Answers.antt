@@ -11,7 +11,8 @@ returns g c f pair =
     subst (λ a. UploadsStep g.C.Link g.O.Link g.O.Upstream g.P.Transform a f f old
     (record old { origin = pushed.new.link; out = pushed.new.from })) (sym c.answer_pushed.ensures)
     (write_step g.C.Link g.O.Link g.O.Upstream g.P.Transform
-    (λ l. g.met.C.Link.goes_still l l (g.met.C.Link.stays l)) f old pushed.new.link pushed.new.from pushed.result
+    (λ l. g.met.C.Link.goes_still l l (g.met.C.Link.stays l)) f old pushed.new.link pushed.new.from
+    pushed.result
     pushed.ensures.moved c.requires.begun c.requires.some pair
     (g.met.O.Upstream.pair_stays f.client f.client old.origin pushed.new.link pair.inside
     (g.met.C.Link.stays f.client) pushed.ensures.goes)

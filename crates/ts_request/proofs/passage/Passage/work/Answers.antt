@@ -8,7 +8,8 @@ returns-clause-ok g c =
     let chain = c.args.self.now.chain in
     let pumped = c.in_ok-_pumped._pumped in
     let said = c.in_ok-_pumped.ensures in
-    let moves = must_moves chain.given chain.first chain.stages c.args.at pumped c.requires.must said.answer in
+    let moves = must_moves chain.given chain.first chain.stages c.args.at pumped c.requires.must said.answer
+    in
     record {
       at = c.args.at;
       pumps = record { pumped = pumped; answers = said.answer; steps = said.steps; given = said.kept.0 };
