@@ -61,13 +61,16 @@ module _ {C O P : Type 0} (client : link.Ghosts C) (origin : link.Ghosts O) (inn
     lines_same : request_lines d ≡ request_lines c
     lines_same = ap (λ x. (arc_value {X = Setup} x).requests.items) b.setup
 
-    refuses_begun : (list : List ℕ) → CarrierRefuses inner.refuses c list → CarrierRefuses inner.refuses d list
+    refuses_begun : (list : List ℕ) → CarrierRefuses inner.refuses c list
+        → CarrierRefuses inner.refuses d list
     refuses_begun list (inl r) = inl (subst (λ (ls : List TransformLine). RefusesUpload ls list) (sym
         lines_same) r)
     refuses_begun list (inr r) = inr (subst (λ (o : O). inner.refuses o list) (sym b.origin_is) r)
 
-    refused_before : (list : List ℕ) → CarrierRefuses inner.refuses d list → CarrierRefuses inner.refuses c list
-    refused_before list (inl r) = inl (subst (λ (ls : List TransformLine). RefusesUpload ls list) lines_same r)
+    refused_before : (list : List ℕ) → CarrierRefuses inner.refuses d list
+        → CarrierRefuses inner.refuses c list
+    refused_before list (inl r) =
+        inl (subst (λ (ls : List TransformLine). RefusesUpload ls list) lines_same r)
     refused_before list (inr r) = inr (subst (λ (o : O). inner.refuses o list) b.origin_is r)
 
     abbrev fl : Look

@@ -8,6 +8,7 @@ use Rattle.ts_link.specs.declared.link.Link as link
 use Rattle.ts_transform.specs.declared.transform.Transform as transform
 use Rattle.ts_upstream.specs.declared.upstream.Uploaded.{Uploaded}
 use Rattle.ts_upstream.specs.declared.upstream.Upstream as upstream
+use Rattle.ts_wire.specs.declared.framing.Framing.{Framing}
 use Rattle.ts_request.specs.Carried.{UploadsStep}
 use Rattle.ts_request.specs.Carrying.{carrier_look}
 use Rattle.ts_request.specs.Front.{FrontSeen, ReadsBody}
@@ -17,6 +18,7 @@ use Rattle.ts_request.specs.declared.carrier.Carrier.{Carrier}
 use Rattle.ts_request.specs.declared.carrier.HeadState.{HeadState}
 use Rattle.ts_request.specs.declared.carrier.HeadState.TheVariants as H
 use Rattle.ts_request.specs.declared.passage.Next.{Next}
+use Rattle.ts_request.specs.declared.stage.Stage.TheVariants as S
 
 -- the upload has begun
 abbrev pub IsBegun : HeadState → Type 0
@@ -43,6 +45,13 @@ module _ {C O P : Type 0} (client : link.Ghosts C) (origin : link.Ghosts O) (inn
     pub setup : d.setup ≡ c.setup
     pub left : NoMore (carrier_left client origin inner stage f c) (carrier_left client origin inner stage f
         d)
+
+module _ {C O P : Type 0} (client : link.Ghosts C) (origin : link.Ghosts O) (inner : upstream.Ghosts O C)
+    (stage : transform.Ghosts P TransformLine) where
+  -- the same, whatever front belongs to the carrier that has found an upload with this framing
+  abbrev pub BeginsWith : Framing → Carrier O P → Carrier O P → Type 0
+  BeginsWith framing c d = (f : FrontSeen C) → CarrierPair client origin inner stage f c
+      → f.text.stage ≡ S.Uploading framing → Begins client origin inner stage f c d
 
 -- One read of the body came behind what waits.
 pub record ReadsOn {C : Type 0} (client : link.Ghosts C) (f g : FrontSeen C) (before after : List ℕ) (answer

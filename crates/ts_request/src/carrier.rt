@@ -108,7 +108,8 @@ fn hold(out: &mut Waiting, writes: &mut u64, piece: &[u8]) -> Put
 
 // As a link it is the origin's, but for what it holds.
 impl<O: Link, P> Link for Carrier<O, P> {
-    ghost use Rattle.ts_request.specs.CarrierLaws.{as_link, carrier_goes_on, carrier_goes_still, carrier_stays, carrier_still_on};
+    ghost use Rattle.ts_request.specs.CarrierLaws.{as_link, carrier_goes_on, carrier_goes_still};
+    ghost use Rattle.ts_request.specs.CarrierLaws.{carrier_stays, carrier_still_on};
     ghost use Rattle.ts_request.specs.Carrying.{CarrierGoes, CarrierStill, carrier_look};
 
     ghost tells = { O.tells };
@@ -154,7 +155,8 @@ impl<O: Link, P> Link for Carrier<O, P> {
 impl<C: Sourced + Drop, O: Upstream<C>, P: Transform<Line = TransformLine> + Drop> Upstream<
     Front<C>,
 > for Carrier<O, P> {
-    ghost use Rattle.ts_request.specs.CarrierLaws.{as_link, as_origin, as_stage, left_on, pair_on, refusal_on};
+    ghost use Rattle.ts_request.specs.CarrierLaws.{as_link, as_origin, as_stage};
+    ghost use Rattle.ts_request.specs.CarrierLaws.{left_on, pair_on, refusal_on};
     ghost use Rattle.ts_request.specs.Carrying.{CarrierStill};
     ghost use Rattle.ts_request.specs.Pairing.{CarrierPair, CarrierRefuses, carrier_left};
 
@@ -175,7 +177,8 @@ impl<C: Sourced + Drop, O: Upstream<C>, P: Transform<Line = TransformLine> + Dro
         (as_link O.tells O.look O.goes O.still)
         (as_origin O.paired O.refuses O.upload_left O.one_upload)
         (as_stage P.rest P.soon P.line_soon P.whole P.pause P.line_pause)
-        f g c d goes also (O.pair_stays f.client g.client c.origin d.origin pair.inside goes.client also.inside)
+        f g c d goes also
+        (O.pair_stays f.client g.client c.origin d.origin pair.inside goes.client also.inside)
         (O.refusal_stays c.origin d.origin also.inside) pair };
 
     ghost refusal_stays = { λ c d also. refusal_on (as_link O.tells O.look O.goes O.still) O.refuses c d also

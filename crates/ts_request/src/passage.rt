@@ -1,11 +1,13 @@
 //! The way of a request's body to its origin: read by its framing, passed through the chain of the request
 //! lines
 //! and framed again, whatever links it comes from and goes to.
-ghost use Rattle.std.specs.Prelude.{◌≡◌, ◌≢◌, ◌<◌, ◌++◌, [], false, true, length, take, OnOk, OnErr, MatchOption};
+ghost use Rattle.std.specs.Prelude.{◌≡◌, ◌≢◌, ◌<◌, ◌++◌, [], false, true, length, take};
+ghost use Rattle.std.specs.Prelude.{OnOk, OnErr, MatchOption};
 ghost use Rattle.ts_passing.specs.Feeding.{GetsPart};
 ghost use Rattle.ts_transform.specs.Flow.{MustWork, MustWrite};
 ghost use Rattle.ts_wire.specs.Frames.{IsPiece, end_of, frame_of};
-ghost use Rattle.ts_request.specs.PassageSteps.{FeedsPassage, FramesPiece, HasNoWork, IsNext, LosesPart, Works};
+ghost use Rattle.ts_request.specs.PassageSteps.{FeedsPassage, FramesPiece, HasNoWork, IsNext};
+ghost use Rattle.ts_request.specs.PassageSteps.{LosesPart, Works};
 
 use ts_iobuf::Waiting;
 use ts_link::NoMemory;

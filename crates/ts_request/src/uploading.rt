@@ -2,9 +2,9 @@
 ghost use Rattle.std.specs.Prelude.{◌≡◌, ◌≢◌, [], false, true, IfOk, OnOk, OnErr};
 ghost use Rattle.ts_link.specs.LinkAnswers.{count_got};
 ghost use Rattle.ts_passing.specs.Lines.{ActsAsLines};
-ghost use Rattle.ts_request.specs.Begun.{Begins, IsBegun, IsNextOf, ReadsOn, StepsWith};
-ghost use Rattle.ts_request.specs.Carried.{UploadsStep, answer_asked, answer_pushed, answer_read, answer_work, is_done};
-ghost use Rattle.ts_request.specs.Front.{FrontSeen};
+ghost use Rattle.ts_request.specs.Begun.{Begins, BeginsWith, IsBegun, IsNextOf, ReadsOn, StepsWith};
+ghost use Rattle.ts_request.specs.Carried.{UploadsStep, answer_asked, answer_pushed, answer_read};
+ghost use Rattle.ts_request.specs.Carried.{answer_work, is_done};
 ghost use Rattle.ts_request.specs.Pairing.{CarrierPair};
 ghost use Rattle.ts_request.specs.declared.passage.Next.TheVariants as next;
 ghost use Rattle.ts_wire.specs.declared.framing.Framing.{Framing};
@@ -320,9 +320,8 @@ fn begin_body<C: Sourced + Drop, O: Upstream<C>, P: Transform<Line = TransformLi
 ) -> Result<(), NoMemory>
     requires acts { ActsAsLines P.Transform }
     requires held { carrier.old.head ≡ HeadState.Held }
-    ensures ok { OnOk result ((f : FrontSeen C) → CarrierPair C.Link O.Link O.Upstream.own P.Transform f carrier.old
-        → f.text.stage ≡ Stage.Uploading framing
-        → Begins C.Link O.Link O.Upstream.own P.Transform f carrier.old carrier.new) }
+    ensures ok { OnOk result
+        (BeginsWith C.Link O.Link O.Upstream.own P.Transform framing carrier.old carrier.new) }
     ensures err { OnErr result (carrier.new ≡ carrier.old) }
 {
     let lines = carrier.setup.requests.as_slice();
