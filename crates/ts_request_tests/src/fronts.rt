@@ -1,104 +1,55 @@
 //! Fronts of clients in memory: what is shown of the bytes of each, and what is handed over as its body.
-ghost use Rattle.std.specs.Prelude.{◌≤◌};
+ghost use Rattle.std.specs.Prelude.{◌≡◌, []};
+ghost use Rattle.ts_link.specs.MemLink.{look_of};
 
+use crate::rows::{MEMORY, unescaped};
 use std::process::Abort;
 use ts_link::{Got, Link, MemLink, Octets, Put, Sourced};
 use ts_request::{Front, Stage, one_shown, one_upload};
 use ts_upstream::Uploaded;
 use ts_wire::Framing;
 
-const MEMORY: &str = "memory is ample";
-
 // How many reads a client of these tests takes at most.
-const MOST_READS: usize = 400;
+const MOST_READS: u32 = 400;
 
-// What a client gives, what is shown of it, and what is handed over as the body of an upload, raw.
-const ROWS: [(&[u8], &[u8], &[u8]); 14] = [
-    (
-        b"POST / HTTP/1.1\r\nHost: a\r\nContent-Length: 3\r\n\r\nabc",
-        b"POST / HTTP/1.1\r\nHost: a\r\n\r\n",
-        b"abc",
-    ),
-    // a body that is cut, and one that another request follows
-    (
-        b"POST / HTTP/1.1\r\nHost: a\r\nContent-Length: 3\r\n\r\nab",
-        b"POST / HTTP/1.1\r\nHost: a\r\n\r\n",
-        b"ab",
-    ),
-    (
-        b"GET http://b/ HTTP/1.1\r\nContent-Length: 1\r\nHost: a\r\n\r\nxGET / HTTP/1.1\r\n\r\n",
-        b"GET http://b/ HTTP/1.1\r\nHost: a\r\n\r\n",
-        b"xGET / HTTP/1.1\r\n\r\n",
-    ),
-    // chunks behind an empty line, with lines that end in LF alone
-    (
-        b"\r\nPUT / HTTP/1.1\nhost: a\nEXPECT: 1\nTransfer-Encoding:  Chunked\r\nB: :\n\n1\r\nz\r\n0\r\n\r\n",
-        b"\r\nPUT / HTTP/1.1\nhost: a\nB: :\n\n",
-        b"1\r\nz\r\n0\r\n\r\n",
-    ),
-    // three equal lengths in HTTP/1.0, without a Host
-    (
-        b"POST / HTTP/1.0\r\nContent-Length: 2, 2\r\nX-Content-Length: 9\r\ncontent-length:2\r\n\r\nhi",
-        b"POST / HTTP/1.0\r\nX-Content-Length: 9\r\n\r\n",
-        b"hi",
-    ),
-    // no body, and one of length 0
-    (
-        b"GET / HTTP/1.1\r\nHost: a\r\nExpect: 100-continue\r\n\r\nGET / HTTP/1.1\r\n\r\n",
-        b"GET / HTTP/1.1\r\nHost: a\r\nExpect: 100-continue\r\n\r\nGET / HTTP/1.1\r\n\r\n",
-        b"",
-    ),
-    (
-        b"POST / HTTP/1.1\r\nHost: a\r\nContent-Length: 0\r\n\r\n",
-        b"POST / HTTP/1.1\r\nHost: a\r\nContent-Length: 0\r\n\r\n",
-        b"",
-    ),
-    // bodies that are not passed on: two lengths, a length beside chunks, another coding, chunks of HTTP/1.0
-    (
-        b"POST / HTTP/1.1\r\nHost: a\r\nContent-Length: 3, 4\r\n\r\nabc",
-        b"POST / HTTP/1.1\r\nHost: a\r\nContent-Length: 3, 4\r\n\r\nabc",
-        b"",
-    ),
-    (
-        b"POST / HTTP/1.1\r\nHost: a\r\nTransfer-Encoding: chunked\r\nContent-Length: 0\r\n\r\n0\r\n\r\n",
-        b"POST / HTTP/1.1\r\nHost: a\r\nTransfer-Encoding: chunked\r\nContent-Length: 0\r\n\r\n0\r\n\r\n",
-        b"",
-    ),
-    (
-        b"POST / HTTP/1.1\r\nHost: a\r\nTransfer-Encoding: gzip, chunked\r\n\r\n0\r\n\r\n",
-        b"POST / HTTP/1.1\r\nHost: a\r\nTransfer-Encoding: gzip, chunked\r\n\r\n0\r\n\r\n",
-        b"",
-    ),
-    (
-        b"POST / HTTP/1.0\r\nTransfer-Encoding: chunked\r\n\r\n0\r\n\r\n",
-        b"POST / HTTP/1.0\r\nTransfer-Encoding: chunked\r\n\r\n0\r\n\r\n",
-        b"",
-    ),
-    // a tunnel, and a request that the check refuses
-    (
-        b"CONNECT a:80 HTTP/1.1\r\nHost: a\r\nContent-Length: 3\r\n\r\nabc",
-        b"CONNECT a:80 HTTP/1.1\r\nHost: a\r\nContent-Length: 3\r\n\r\nabc",
-        b"",
-    ),
-    (
-        b"POST / HTTP/1.1\r\nContent-Length: 3\r\n\r\nabc",
-        b"POST / HTTP/1.1\r\nContent-Length: 3\r\n\r\nabc",
-        b"",
-    ),
-    // a client that ends within its head
-    (
-        b"POST / HTTP/1.1\r\nContent-Length: 3\r\n",
-        b"POST / HTTP/1.1\r\nContent-Length: 3\r\n",
-        b"",
-    ),
-];
+// A row is `INPUT => SHOWN | BODY`: what a client gives, what is shown of it, and what is handed over as the body
+// of an upload, raw. Where it is `INPUT => the same`, all of it is shown.
+const ROWS: &str = r"
+POST / HTTP/1.1\r\nHost: a\r\nContent-Length: 3\r\n\r\nabc => POST / HTTP/1.1\r\nHost: a\r\n\r\n | abc
+# a body that is cut, and one that another request follows
+POST / HTTP/1.1\r\nHost: a\r\nContent-Length: 3\r\n\r\nab => POST / HTTP/1.1\r\nHost: a\r\n\r\n | ab
+GET http://b/ HTTP/1.1\r\nContent-Length: 1\r\nHost: a\r\n\r\nxGET / => GET http://b/ HTTP/1.1\r\nHost: a\r\n\r\n | xGET /
+# chunks behind an empty line, with lines that end in LF alone
+\r\nPUT / HTTP/1.1\nHost: a\nEXPECT: 1\nTransfer-Encoding:  Chunked\r\nB: :\n\n1\r\n => \r\nPUT / HTTP/1.1\nHost: a\nB: :\n\n | 1\r\n
+# equal lengths in HTTP/1.0, without a Host
+POST / HTTP/1.0\r\nContent-Length: 2, 2\r\nX-Content-Length: 9\r\ncontent-length:2\r\n\r\nhi => POST / HTTP/1.0\r\nX-Content-Length: 9\r\n\r\n | hi
+OPTIONS * HTTP/1.1\r\nHost: a\r\nContent-Length: 9223372036854775807\r\n\r\n => OPTIONS * HTTP/1.1\r\nHost: a\r\n\r\n | 
+# no body, and one of length 0
+GET / HTTP/1.1\r\nHost: a\r\nExpect: 100-continue\r\n\r\nGET / HTTP/1.1\r\n\r\n => the same
+POST / HTTP/1.1\r\nHost: a\r\nContent-Length: 0\r\n\r\n => the same
+# bodies that are not passed on: other lengths, a length beside chunks, another coding, chunks of HTTP/1.0
+POST / HTTP/1.1\r\nHost: a\r\nContent-Length: 3, 4\r\n\r\nabc => the same
+POST / HTTP/1.1\r\nHost: a\r\nContent-Length: +3\r\n\r\nabc => the same
+POST / HTTP/1.1\r\nHost: a\r\nContent-Length: 9223372036854775808\r\n\r\nabc => the same
+POST / HTTP/1.1\r\nHost: a\r\nTransfer-Encoding: chunked\r\nContent-Length: 0\r\n\r\n0\r\n\r\n => the same
+POST / HTTP/1.1\r\nHost: a\r\nTransfer-Encoding: gzip, chunked\r\n\r\n0\r\n\r\n => the same
+POST / HTTP/1.1\r\nHost: a\r\nTransfer-Encoding: chunked\r\nTransfer-Encoding: chunked\r\n\r\n0\r\n\r\n => the same
+POST / HTTP/1.0\r\nTransfer-Encoding: chunked\r\n\r\n0\r\n\r\n => the same
+# a tunnel, requests that the check refuses, a client that ends within its head, and no head
+CONNECT a:80 HTTP/1.1\r\nHost: a\r\nContent-Length: 3\r\n\r\nabc => the same
+POST / HTTP/1.1\r\nContent-Length: 3\r\n\r\nabc => the same
+POST * HTTP/1.1\r\nHost: a\r\nContent-Length: 3\r\n\r\nabc => the same
+POST http://u@a/ HTTP/1.1\r\nHost: a\r\nContent-Length: 3\r\n\r\nabc => the same
+POST / HTTP/1.1\r\nContent-Length: 3\r\n => the same
+no head at all => the same
+";
 
 // A client that gives these bytes in pieces of so many, waits at its first read and fails at its second.
-fn client(rt: &(impl AllocGlobal + Abort), bytes: &[u8], piece: u32) -> MemLink {
+fn client(rt: &(impl AllocGlobal + Abort), bytes: &[u8], piece: u32) -> MemLink
+    ensures { (look_of result).given ≡ [] }
+{
     let mut cuts = Vec::new(rt.alloc());
-    for _ in 0..bytes.len() {
-        cuts.push(piece).expect(rt, MEMORY);
-    }
+    cuts.resize(bytes.len(), piece).expect(rt, MEMORY);
     MemLink::make(
         rt.alloc(),
         Octets::copy_of(rt.alloc(), bytes).expect(rt, MEMORY),
@@ -112,7 +63,7 @@ fn client(rt: &(impl AllocGlobal + Abort), bytes: &[u8], piece: u32) -> MemLink 
 }
 
 // All that the front shows, read into a room of 7 bytes.
-fn shown<C: Link + Drop>(rt: &(impl AllocGlobal + Abort), front: &mut Front<C>) -> Vec<u8> {
+fn shown(rt: &(impl AllocGlobal + Abort), front: &mut Front<MemLink>) -> Vec<u8> {
     let mut text = Vec::new(rt.alloc());
     'reads: for _ in 0..MOST_READS {
         let mut room = [0u8; 7];
@@ -126,7 +77,7 @@ fn shown<C: Link + Drop>(rt: &(impl AllocGlobal + Abort), front: &mut Front<C>) 
 }
 
 // All that the front hands over, read into a room of 5 bytes.
-fn handed<C: Link + Drop>(rt: &(impl AllocGlobal + Abort), front: &mut Front<C>) -> Vec<u8> {
+fn handed(rt: &(impl AllocGlobal + Abort), front: &mut Front<MemLink>) -> Vec<u8> {
     let mut body = Vec::new(rt.alloc());
     'reads: for _ in 0..MOST_READS {
         let Stage::Uploading(_) = front.stage() else {
@@ -143,22 +94,47 @@ fn handed<C: Link + Drop>(rt: &(impl AllocGlobal + Abort), front: &mut Front<C>)
 }
 
 // Holds what a front of this client shows and hands over against what is wanted.
-fn check_client(rt: &(impl AllocGlobal + Abort), row: (&[u8], &[u8], &[u8]), piece: u32) {
-    let (bytes, text, body) = row;
+fn check_front(
+    rt: &(impl AllocGlobal + Abort),
+    bytes: &[u8],
+    text: &[u8],
+    body: &[u8],
+    piece: u32,
+) {
     let mut front = Front::make(rt.alloc(), client(rt, bytes, piece)).expect(rt, MEMORY);
     let got = shown(rt, &mut front);
-    assert!(rt; got.as_slice() == text, "{piece}");
+    assert!(rt; got.as_slice() == text, "in pieces of {piece}");
     let rest = handed(rt, &mut front);
-    assert!(rt; rest.as_slice() == body, "{piece}");
+    assert!(rt; rest.as_slice() == body, "in pieces of {piece}");
     front.known();
     assert!(rt; front.faults() == 1);
 }
 
+// The same at once, in pieces of 5 bytes, and byte by byte.
+fn check_row(rt: &(impl AllocGlobal + Abort), bytes: &str, text: &str, body: &str) {
+    let given = unescaped(rt, bytes);
+    let wanted = unescaped(rt, text);
+    let behind = unescaped(rt, body);
+    for piece in [1u32, 5, 1000] {
+        check_front(
+            rt,
+            given.as_slice(),
+            wanted.as_slice(),
+            behind.as_slice(),
+            piece,
+        );
+    }
+}
+
 #[test]
 fn a_front_shows_a_head_and_hands_over_its_body(rt: HostRuntime) {
-    for row in ROWS {
-        for piece in [1, 5, 1000] {
-            check_client(&rt, row, piece);
+    for line in ROWS.lines() {
+        let Some((bytes, wanted)) = line.split_once(" => ") else {
+            continue;
+        };
+        match wanted.split_once(" | ") {
+            Some((text, body)) => check_row(&rt, bytes, text, body),
+            None => check_row(&rt, bytes, bytes, ""),
         }
     }
 }
@@ -176,10 +152,11 @@ fn what_is_written_to_a_front_is_written_to_its_client(rt: HostRuntime) {
 
 #[test]
 fn an_upload_of_the_origin_s_own_gets_the_client_inside(rt: HostRuntime) {
+    let request = b"POST / HTTP/1.1\r\nHost: a\r\nContent-Length: 3\r\n\r\nabc";
     let mut origin = client(&rt, b"", 1);
-    let mut front = Front::make(rt.alloc(), client(&rt, ROWS[0].0, 1000)).expect(&rt, MEMORY);
+    let mut front = Front::make(rt.alloc(), client(&rt, request, 1000)).expect(&rt, MEMORY);
     let head = shown(&rt, &mut front);
-    assert!(rt; head.as_slice() == ROWS[0].1);
+    assert!(rt; head.as_slice() == b"POST / HTTP/1.1\r\nHost: a\r\n\r\n".as_slice());
     assert!(rt; front.upload_inside(&mut origin) == Uploaded::Done);
     assert!(rt; matches!(front.stage(), Stage::Uploading(Framing::Sized(3))));
     let body = handed(&rt, &mut front);

@@ -3,3 +3,5 @@
 
 #[cfg(test)]
 mod fronts;
+#[cfg(test)]
+mod rows;

@@ -1,0 +1,33 @@
+//! Rows of tests as text, in which `\r` and `\n` stand for bytes.
+
+use std::process::Abort;
+
+/// What a test that wants memory says.
+pub(crate) const MEMORY: &str = "ample memory";
+
+/// The byte that `\` and this letter stand for.
+fn named(letter: u8) -> u8 {
+    match letter {
+        b'r' => b'\r',
+        b'n' => b'\n',
+        _ => letter,
+    }
+}
+
+/// The bytes that a text stands for.
+pub(crate) fn unescaped(rt: &(impl AllocGlobal + Abort), text: &str) -> Vec<u8> {
+    let mut bytes = Vec::new(rt.alloc());
+    let mut rest = text.as_bytes();
+    while let [first, after @ ..] = rest {
+        rest = after;
+        let mut byte = *first;
+        if byte == b'\\'
+            && let [letter, later @ ..] = after
+        {
+            byte = named(*letter);
+            rest = later;
+        }
+        bytes.push(byte).expect(rt, MEMORY);
+    }
+    bytes
+}
