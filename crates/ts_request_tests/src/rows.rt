@@ -20,14 +20,17 @@ pub(crate) fn unescaped(rt: &(impl AllocGlobal + Abort), text: &str) -> Vec<u8> 
     let mut rest = text.as_bytes();
     while let [first, after @ ..] = rest {
         rest = after;
-        let mut byte = *first;
-        if byte == b'\\'
-            && let [letter, later @ ..] = after
-        {
-            byte = named(*letter);
-            rest = later;
+        if *first != b'\\' {
+            bytes.push(*first).expect(rt, MEMORY);
+            continue;
         }
-        bytes.push(byte).expect(rt, MEMORY);
+        match after {
+            [letter, later @ ..] => {
+                bytes.push(named(*letter)).expect(rt, MEMORY);
+                rest = later;
+            }
+            [] => {}
+        }
     }
     bytes
 }
