@@ -15,7 +15,8 @@ const MEMORY: &str = "memory is ample";
 // No upload here takes so many calls.
 const MOST_CALLS: usize = 400;
 
-// A request with the request lines under which it is carried, as its client's bytes come, what comes of it, and what
+// A request with the request lines under which it is carried, as its client's bytes come, what comes of it,
+// and what
 // its origin gets.
 #[derive(Clone, Copy)]
 struct Row {
