@@ -16,8 +16,7 @@ const MEMORY: &str = "memory is ample";
 const MOST_CALLS: usize = 400;
 
 // A request with the request lines under which it is carried, as its client's bytes come, what comes of it,
-// and what
-// its origin gets.
+// and what its origin gets.
 #[derive(Clone, Copy)]
 struct Row {
     lines: &'static [u8],

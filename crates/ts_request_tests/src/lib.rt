@@ -1,6 +1,5 @@
 //! Tests of request bodies: what is shown of a request with one, what is handed over of it, and what of it an
-//! origin
-//! gets.
+//! origin gets.
 #![tactic(auto)]
 
 #[cfg(test)]
