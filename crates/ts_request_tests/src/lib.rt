@@ -1,6 +1,9 @@
-//! Tests of request bodies: what is shown of a request with one, and what is handed over of it.
+//! Tests of request bodies: what is shown of a request with one, what is handed over of it, and what of it an
+//! origin gets.
 #![tactic(auto)]
 
+#[cfg(test)]
+mod carrying;
 #[cfg(test)]
 mod fronts;
 #[cfg(test)]
