@@ -1,0 +1,2 @@
+-- The definitions that the contracts of transactions with layers cite.
+pub mod Layers
