@@ -13,12 +13,14 @@ pub struct Lifted<O> {
 }
 
 impl<O> Lifted<O> {
+    /// The link to this origin for a client with a tap. It takes no memory.
     pub fn make(origin: O) -> Lifted<O>
         ensures { result.origin ≡ origin }
     {
         Lifted { origin }
     }
 
+    /// The origin inside, as it is left.
     pub fn into_origin(self) -> O
         ensures { result ≡ self.origin }
     {
