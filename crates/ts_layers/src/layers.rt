@@ -11,7 +11,7 @@ ghost use Rattle.ts_request.specs.Front.{ShowsClient, fresh_front};
 ghost use Rattle.ts_txn.specs.Making.{IsTxnSetup};
 ghost use Rattle.ts_txn.specs.World.{IsSoundTxn, IsTxnOf};
 ghost use Rattle.ts_exchange.specs.Ends.{AreNewEnds, Ends, ends_of};
-ghost use Rattle.ts_layers.specs.Layers.{AreSureLayers, IsInside, IsLayerOver, IsLayeredTag};
+ghost use Rattle.ts_layers.specs.Layers.{AreSureLayers, IsInside, IsLayerOver, IsLayeredTag, origin_inside};
 ghost use Rattle.ts_layers.specs.Layers.{IsLayeredBetween, LayeredExchanges};
 ghost use Rattle.ts_layers.specs.Layers.{carrier_link, carrier_origin, front_link};
 
@@ -97,6 +97,25 @@ pub fn make_layered<
     make_exchange(alloc, setting, number, promise, front, carrier)
 }
 
+// The links inside a front and a carrier, if there is one.
+fn links_inside<C: Link + Drop, O: Upstream<C> + Drop, P: Transform<Line = TransformLine> + Drop>(
+    front: Front<C>,
+    carrier: Option<Carrier<O, P>>,
+) -> (C, Option<O>)
+    ensures client { result.0 ≡ front.client }
+    ensures origin { result.1 ≡ origin_inside carrier }
+    ensures shows { C.tells ≡ true → ShowsClient C.look front }
+    ensures carried { (inner : Carrier O P) → carrier ≡ Some inner
+        → DeliversIfPaired C.Link O.Link O.Upstream.own P.Transform front inner }
+{
+    let Some(carrier) = carrier else {
+        return (front.into_client(), None);
+    };
+    delivered(&front, &carrier);
+    let client = front.into_client();
+    (client, Some(carrier.into_origin()))
+}
+
 /// The parts of a transaction whose layers are taken off: the client and the origin inside, and all else as
 /// it is. It takes no memory. What the origin inside took is the request's head with the line that says how
 /// its body is framed, and the frames of a front of the request lines' work on the body.
@@ -121,23 +140,7 @@ pub fn plain_parts<
         cuts,
         end,
     } = parts;
-    let Some(carrier) = origin else {
-        let client = client.into_client();
-        return TxnParts {
-            number,
-            client,
-            origin: None,
-            head,
-            mode,
-            client_faults,
-            origin_faults,
-            cuts,
-            end,
-        };
-    };
-    delivered(&client, &carrier);
-    let client = client.into_client();
-    let origin = Some(carrier.into_origin());
+    let (client, origin) = links_inside(client, origin);
     TxnParts {
         number,
         client,
