@@ -48,8 +48,8 @@ refuses_asked U.Refused R Q r = inr r
 refuses_asked U.NoMemory R Q r = tt
 
 counts_asked : (a : Uploaded) (c c' o o' d d' p p' : Look) → UploadCounts a c c' o o' → d.waits ≡ c.waits
-    → d'.waits ≡ c'.waits → d.faults ≡ c.faults → d'.faults ≡ c'.faults → p.waits ≡ o.waits → p'.waits ≡
-    o'.waits
+    → d'.waits ≡ c'.waits → d.faults ≡ c.faults → d'.faults ≡ c'.faults → p.waits ≡ o.waits
+    → p'.waits ≡ o'.waits
     → p.faults ≡ o.faults → p'.faults ≡ o'.faults → UploadCounts (answer_asked a) d d' p p'
 counts_asked U.Done c c' o o' d d' p p' counts a b e f g h i j = tt
 counts_asked U.More c c' o o' d d' p p' counts a b e f g h i j = tt
@@ -82,8 +82,8 @@ was_done U.Refused is = absurd (false≢true is)
 was_done U.NoMemory is = absurd (false≢true is)
 
 -- want of memory is that of the origin's own
-lacks_asked : (a : Uploaded) (c c' o o' : Look) (R : Type 0) → answer_asked a ≡ U.NoMemory → UploadLacks a c
-    c' o o'
+lacks_asked : (a : Uploaded) (c c' o o' : Look) (R : Type 0) → answer_asked a ≡ U.NoMemory
+    → UploadLacks a c c' o o'
     → ((c' ≡ c) → (o' ≡ o) → (is_done a ≡ false) → R) → R
 lacks_asked U.NoMemory c c' o o' R is lacks go = go lacks.0 lacks.1 refl
 lacks_asked U.Done c c' o o' R is lacks go = absurd (let wrong : U.More ≡ U.NoMemory = is in cc)
@@ -115,8 +115,8 @@ waits_asked U.NoMemory = refl
 
 -- ---- what is left
 
-pub inside_less : (ct ot : Bool) (i j : Option ℕ) (a b : ℕ) → Fewer i j → b ≤ a → Fewer (left_if ct ot i a)
-    (left_if ct ot j b)
+pub inside_less : (ct ot : Bool) (i j : Option ℕ) (a b : ℕ) → Fewer i j → b ≤ a
+    → Fewer (left_if ct ot i a) (left_if ct ot j b)
 inside_less false ot i j a b fell less = tt
 inside_less true false i j a b fell less = tt
 inside_less true true None j a b fell less = tt
@@ -157,8 +157,8 @@ falls_asked ct ot U.NoMemory i j m n w w' is falls =
     (inside_calm ct ot i j w w' falls.0 (omega (arith, is)), falls.1)
 
 -- what is not told is not measured
-falls_untold : (a : Uploaded) (i j m n : Option ℕ) → UploadFalls a i j m n → UploadFalls (answer_asked a)
-    None None m n
+falls_untold : (a : Uploaded) (i j m n : Option ℕ) → UploadFalls a i j m n
+    → UploadFalls (answer_asked a) None None m n
 falls_untold U.Done i j m n falls = (tt, falls.1)
 falls_untold U.More i j m n falls = (tt, falls.1)
 falls_untold U.Again i j m n falls = (tt, falls.1)
@@ -177,8 +177,8 @@ most_same (S.Uploading framing) t l l' all left =
     ap (λ (xs : List ℕ). length (body_left_by (S.Uploading framing) t xs)) left
 
 module _ {C O P : Type 0} (client : link.Ghosts C) (origin : link.Ghosts O) (inner : upstream.Ghosts O C)
-    (stage : transform.Ghosts P TransformLine) (f : FrontSeen C) (c : Carrier O P) (k : C) (o : O) (a :
-    Uploaded)
+    (stage : transform.Ghosts P TransformLine) (f : FrontSeen C) (c : Carrier O P) (k : C) (o : O)
+    (a : Uploaded)
     (pair : CarrierPair client origin inner stage f c) (begun : IsBegun c.head) (none : c.out ≡ [])
     (unasked : c.asked ≡ false)
     (stay : StayPaired client.still origin.still inner.paired inner.refuses f.client k c.origin o)
@@ -208,13 +208,13 @@ module _ {C O P : Type 0} (client : link.Ghosts C) (origin : link.Ghosts O) (inn
   handed_same : client.tells ≡ true → handed_of client.look front_on ≡ handed_of client.look f
   handed_same told = ap (λ xs. body_given_by f.text.stage f.text xs) (bytes.client told).given
 
-  front_client : client.tells ≡ true → UploadsClient (front_look client.look f) (front_look client.look
-      front_on)
+  front_client : client.tells ≡ true
+      → UploadsClient (front_look client.look f) (front_look client.look front_on)
   front_client told =
       let of = bytes.client told in
       record {
-        all = λ i. given_by f.text.stage f.text (of.given i) ++ left_by f.text.stage f.text (left_same told
-            i);
+        all = λ i. given_by f.text.stage f.text (of.given i)
+            ++ left_by f.text.stage f.text (left_same told i);
         given = ap (given_by f.text.stage f.text) of.given;
         taken = of.taken;
       }
@@ -266,8 +266,8 @@ module _ {C O P : Type 0} (client : link.Ghosts C) (origin : link.Ghosts O) (inn
   source_same = keeps.client.source
 
   way_on : (head : HeadState) (passage : Option (Passage P)) → IsBegun head
-      → WayBy client origin inner stage head passage f c → WayBy client origin inner stage head passage
-      front_on asked_on
+      → WayBy client origin inner stage head passage f c
+      → WayBy client origin inner stage head passage front_on asked_on
   way_on H.Held passage (len, line, is) way = absurd (let wrong : H.Held ≡ H.Sent len line = is in cc)
   way_on (H.Sent len line) None is way = record {
     line_is = way.line_is;
@@ -292,13 +292,13 @@ module _ {C O P : Type 0} (client : link.Ghosts C) (origin : link.Ghosts O) (inn
             (unbehind len (sent_head way.framing (request_lines c)) way.text c empty (way.stands told)));
       }
 
-  refuses_before : (list : List ℕ) → CarrierRefuses inner.refuses asked_on list → CarrierRefuses
-      inner.refuses c list
+  refuses_before : (list : List ℕ) → CarrierRefuses inner.refuses asked_on list
+      → CarrierRefuses inner.refuses c list
   refuses_before list (inl r) = inl r
   refuses_before list (inr r) = inr (stay.refusal.before list r)
 
-  refuses_still : (list : List ℕ) → CarrierRefuses inner.refuses c list → CarrierRefuses inner.refuses
-      asked_on list
+  refuses_still : (list : List ℕ) → CarrierRefuses inner.refuses c list
+      → CarrierRefuses inner.refuses asked_on list
   refuses_still list (inl r) = inl r
   refuses_still list (inr r) = inr (stay.refusal.still list r)
 
@@ -329,15 +329,15 @@ module _ {C O P : Type 0} (client : link.Ghosts C) (origin : link.Ghosts O) (inn
   tells_by : (len line : ℕ) (sent : List ℕ → List ℕ) (told : origin.tells ≡ true) → Unlines len line sent
       → StandsFirst origin.look len sent (own_of origin.look c) c → TellsAsked (H.Sent len line) told
   tells_by len line sent told unlines s = (
-    taken_grown len line sent (own_of origin.look c) (own_of origin.look asked_on) s.head (own_of origin.look
-        c)
-        (bytes.origin told).more (all_sent origin.look c) (all_sent origin.look asked_on) unlines s.long
-        s.text
+    taken_grown len line sent (own_of origin.look c) (own_of origin.look asked_on) s.head
+        (own_of origin.look c)
+        (bytes.origin told).more (all_sent origin.look c)
+        (all_sent origin.look asked_on) unlines s.long s.text
         (sent_more told),
-    carried_grown len line sent (own_of origin.look c) (own_of origin.look asked_on) s.head (own_of
-        origin.look c)
-        (bytes.origin told).more (all_sent origin.look c) (all_sent origin.look asked_on) unlines s.long
-        s.text
+    carried_grown len line sent (own_of origin.look c) (own_of origin.look asked_on) s.head
+        (own_of origin.look c)
+        (bytes.origin told).more (all_sent origin.look c)
+        (all_sent origin.look asked_on) unlines s.long s.text
         (sent_more told),
   )
 
@@ -349,12 +349,12 @@ module _ {C O P : Type 0} (client : link.Ghosts C) (origin : link.Ghosts O) (inn
   tells_on (H.Sent len line) (Some p) told is way =
       tells_by len line (sent_head way.framing (request_lines c)) told
       (unlines_framed len line (sent_framing way.framing (request_lines c)) way.line_is)
-      (unbehind len (sent_head way.framing (request_lines c)) way.text c (way.before unasked) (way.stands
-      told))
+      (unbehind len (sent_head way.framing (request_lines c)) way.text c (way.before unasked)
+      (way.stands told))
 
   asked_origin : (told : origin.tells ≡ true)
-      → UploadsOrigin (carrier_look origin.tells origin.look c) (carrier_look origin.tells origin.look
-      asked_on)
+      → UploadsOrigin (carrier_look origin.tells origin.look c)
+      (carrier_look origin.tells origin.look asked_on)
   asked_origin told =
       let of = bytes.origin told in
       let tells = tells_on c.head c.passage told begun pair.way in
@@ -396,8 +396,8 @@ module _ {C O P : Type 0} (client : link.Ghosts C) (origin : link.Ghosts O) (inn
           (both (client.look f.client).agains (origin.look c.origin).agains)
           (both (client.look k).agains (origin.look o).agains)
       by_told true told =
-          subst (λ (n : ℕ). UploadFalls (answer_asked a) (left_if true origin.tells (inner.upload_left
-          f.client c.origin)
+          subst (λ (n : ℕ). UploadFalls (answer_asked a)
+          (left_if true origin.tells (inner.upload_left f.client c.origin)
           (work_left stage.rest most c.head c))
           (left_if true origin.tells (inner.upload_left k o) (work_left stage.rest n c.head asked_on))
           (both (client.look f.client).agains (origin.look c.origin).agains)
@@ -405,8 +405,8 @@ module _ {C O P : Type 0} (client : link.Ghosts C) (origin : link.Ghosts O) (inn
           (falls_asked true origin.tells a (inner.upload_left f.client c.origin) (inner.upload_left k o) _ _
           (work_left stage.rest most c.head c) (work_left stage.rest most c.head asked_on)
           (work_by c.head begun most) falls)
-      by_told false told = falls_untold a (inner.upload_left f.client c.origin) (inner.upload_left k o) _ _
-          falls
+      by_told false told = falls_untold a (inner.upload_left f.client c.origin)
+          (inner.upload_left k o) _ _ falls
 
   pub ask_step : UploadsStep client origin inner stage (answer_asked a) f front_on c asked_on
   ask_step =
@@ -423,8 +423,8 @@ module _ {C O P : Type 0} (client : link.Ghosts C) (origin : link.Ghosts O) (inn
         };
         causes = record {
           refusal = λ told. refuses_asked a _ _ (causes.refusal told);
-          counts = counts_asked a (client.look f.client) (client.look k) (origin.look c.origin) (origin.look
-              o)
+          counts = counts_asked a (client.look f.client) (client.look k) (origin.look c.origin)
+              (origin.look o)
               fl gl cl dl causes.counts refl refl refl refl refl refl refl refl;
           lacks = lacks_if (answer_asked a) fl gl cl dl (λ is.
               lacks_asked a (client.look f.client) (client.look k) (origin.look c.origin) (origin.look o)
@@ -466,7 +466,7 @@ module _ {C O P : Type 0} (client : link.Ghosts C) (origin : link.Ghosts O) (inn
                   let none = went.faults (stays_inside (origin.look c.origin).plan (λ q. q.leave ≡ None)
                   never) in
                   (failed_asked a ∙ none.0, none.1, none.2);
-              waits = λ still also. waits_asked a ∙ went.waits still (plan_inside (origin.look c.origin).plan
-                  _ also);
+              waits = λ still also. waits_asked a
+                  ∙ went.waits still (plan_inside (origin.look c.origin).plan _ also);
             };
       }

@@ -55,8 +55,8 @@ same_count stage [] (p ∷ ps) of = absurd of
 same_count stage (l ∷ ls) [] of = absurd of
 same_count stage (l ∷ ls) (p ∷ ps) of = let rest = same_count stage ls ps of.3 in omega (arith, rest)
 
-module _ {P : Type 0} (stage : transform.Ghosts P TransformLine) (lines : List TransformLine) (framing :
-    Framing)
+module _ {P : Type 0} (stage : transform.Ghosts P TransformLine) (lines : List TransformLine)
+    (framing : Framing)
     (mode : Mode) (p : Passage P) (h : IsFreshPassage stage lines framing mode p) where
   fresh_sends : Sends stage.rest stage.soon lines [] [] p.chain
   fresh_sends = record {
@@ -135,8 +135,8 @@ module _ {C O P : Type 0} (client : link.Ghosts C) (origin : link.Ghosts O) (inn
   way_held (H.Sent len line) is way = absurd (let wrong : H.Sent len line ≡ H.Held = is in cc)
 
   -- what is told stays: the head, and nothing behind it
-  module _ (len line : ℕ) (sent : List ℕ → List ℕ) (out : List ℕ) (passage : Option (Passage P)) (held :
-      c.head ≡ H.Held)
+  module _ (len line : ℕ) (sent : List ℕ → List ℕ) (out : List ℕ) (passage : Option (Passage P))
+      (held : c.head ≡ H.Held)
       (h : HoldsBack client origin inner stage f c) (long : length c.out ≡ len) (text : out ≡ sent c.out)
       (unlines : Rattle.ts_request.proofs.Told.Unlines len line sent) where
     abbrev pub begun_with : Carrier O P
@@ -165,32 +165,32 @@ module _ {C O P : Type 0} (client : link.Ghosts C) (origin : link.Ghosts O) (inn
               ∙ sym (taken_before (told refl))
               ∙ ap (λ (x : HeadState). without_line x (all_sent origin.look c)) (sym held)) i;
           carried = (ap (behind_head (H.Sent len line) (own_of origin.look c)) (sent_all (told refl))
-              ∙ behind_told len line sent (own_of origin.look c) c.out [] unlines long ∙ sym (h.own (told
-              refl))
-              ∙ ap (λ (x : HeadState). behind_head x (own_of origin.look c) (all_sent origin.look c)) (sym
-              held)) i;
+              ∙ behind_told len line sent (own_of origin.look c) c.out [] unlines long
+              ∙ sym (h.own (told refl))
+              ∙ ap (λ (x : HeadState). behind_head x (own_of origin.look c) (all_sent origin.look c))
+              (sym held)) i;
         }
     by_told false told = refl
 
-    pub look_stays : carrier_look origin.tells origin.look begun_with ≡ carrier_look origin.tells origin.look
-        c
+    pub look_stays : carrier_look origin.tells origin.look begun_with
+        ≡ carrier_look origin.tells origin.look c
     look_stays = by_told origin.tells (λ is. is)
 
     -- and no more is left to do than room was told for
     pub left_stays : length out ≤ MOST_HELD + framing_limit
-        → way_left (request_lines c) stage.rest (body_most f.text (client.look f.client)) (length c.inbox)
-        passage
+        → way_left (request_lines c) stage.rest (body_most f.text (client.look f.client))
+        (length c.inbox) passage
         ≤ to_read (request_lines c) (body_most f.text (client.look f.client)) 0 + fresh_left (request_lines c)
-        → NoMore (carrier_left client origin inner stage f c) (carrier_left client origin inner stage f
-        begun_with)
+        → NoMore (carrier_left client origin inner stage f c)
+        (carrier_left client origin inner stage f begun_with)
     left_stays fits way =
         let most = body_most f.text (client.look f.client) in
         let asked : to_come c.asked ≤ 1 = come_one c.asked in
         let over : to_come c.over ≤ 1 = come_one c.over in
         let before : work_left stage.rest most c.head c ≡ held_left (request_lines c) most =
         ap (λ (x : HeadState). work_left stage.rest most x c) held in
-        calm_work client.tells origin.tells (inner.upload_left f.client c.origin) (work_left stage.rest most
-        c.head c)
+        calm_work client.tells origin.tells (inner.upload_left f.client c.origin)
+        (work_left stage.rest most c.head c)
         (work_left stage.rest most (H.Sent len line) begun_with) (omega (
           arith,
           before,
@@ -207,8 +207,8 @@ module _ {C O P : Type 0} (client : link.Ghosts C) (origin : link.Ghosts O) (inn
   -- ---- a request without an upload
 
   module _ (held : c.head ≡ H.Held) (pair : CarrierPair client origin inner stage f c)
-      (lacks : client.tells ≡ true → LacksUpload (source_of client.look f)) (len : ℕ) (long : length c.out ≡
-      len) where
+      (lacks : client.tells ≡ true → LacksUpload (source_of client.look f)) (len : ℕ)
+      (long : length c.out ≡ len) where
     abbrev pub plain_on : Carrier O P
     plain_on = record c { head = H.Sent len 0 }
 
@@ -228,8 +228,8 @@ module _ {C O P : Type 0} (client : link.Ghosts C) (origin : link.Ghosts O) (inn
           pair = record {
             inside = pair.inside;
             acts = pair.acts;
-            way = subst (λ (x : Option (Passage P)). WayBy client origin inner stage (H.Sent len 0) x f
-                plain_on)
+            way = subst
+                (λ (x : Option (Passage P)). WayBy client origin inner stage (H.Sent len 0) x f plain_on)
                 (sym h.passage) plain;
             own_done = pair.own_done;
             done = λ over. absurd (true≢false (sym over ∙ h.over));
@@ -241,8 +241,8 @@ module _ {C O P : Type 0} (client : link.Ghosts C) (origin : link.Ghosts O) (inn
               (let few = h.few in omega (arith, few))
               (subst (λ (x : Option (Passage P)). way_left (request_lines c) stage.rest
               (body_most f.text (client.look f.client)) (length c.inbox) x
-              ≤ to_read (request_lines c) (body_most f.text (client.look f.client)) 0 + fresh_left
-              (request_lines c))
+              ≤ to_read (request_lines c) (body_most f.text (client.look f.client)) 0
+              + fresh_left (request_lines c))
               (sym h.passage) (omega arith));
         }
 
@@ -251,8 +251,8 @@ module _ {C O P : Type 0} (client : link.Ghosts C) (origin : link.Ghosts O) (inn
   module _ (held : c.head ≡ H.Held) (pair : CarrierPair client origin inner stage f c) (framing : Framing)
       (uploading : f.text.stage ≡ S.Uploading framing) (out : List ℕ)
       (text : out ≡ with_framing c.out (sent_framing framing (request_lines c))) (p : Passage P)
-      (fresh : IsFreshPassage stage (request_lines c) framing (mode_said (sent_framing framing (request_lines
-      c))) p)
+      (fresh : IsFreshPassage stage (request_lines c) framing
+      (mode_said (sent_framing framing (request_lines c))) p)
       (len line : ℕ) (long : length c.out ≡ len)
       (line_is : line ≡ length (framing_line (sent_framing framing (request_lines c)))) where
     abbrev pub body_on : Carrier O P
@@ -293,12 +293,12 @@ module _ {C O P : Type 0} (client : link.Ghosts C) (origin : link.Ghosts O) (inn
             own_done = pair.own_done;
             done = λ over. absurd (true≢false (sym over ∙ h.over));
           };
-          look = look_stays len line (sent_head framing (request_lines c)) out (Some p) held h long text
-              unlines;
+          look = look_stays len line (sent_head framing (request_lines c)) out
+              (Some p) held h long text unlines;
           origin_is = refl;
           setup = refl;
-          left = left_stays len line (sent_head framing (request_lines c)) out (Some p) held h long text
-              unlines
+          left = left_stays len line (sent_head framing (request_lines c)) out
+              (Some p) held h long text unlines
               (let few = h.few in
               let short = framing_short said in
               let all = ap length text ∙ framed_length c.out said in
@@ -307,7 +307,7 @@ module _ {C O P : Type 0} (client : link.Ghosts C) (origin : link.Ghosts O) (inn
               let least = fresh_least stage (request_lines c) framing (mode_said said) p fresh in
               subst (λ (n : ℕ). to_read (request_lines c) (body_most f.text (client.look f.client)) n
               + passage_left stage.rest p
-              ≤ to_read (request_lines c) (body_most f.text (client.look f.client)) 0 + fresh_left
-              (request_lines c))
+              ≤ to_read (request_lines c) (body_most f.text (client.look f.client)) 0
+              + fresh_left (request_lines c))
               (sym none) (omega (arith, least)));
         }

@@ -44,8 +44,8 @@ falls_from U.Refused a b x m n less falls = (no_more_from a b x less falls.0, fa
 falls_from U.NoMemory a b x m n less falls = (no_more_from a b x less falls.0, falls.1)
 
 -- what is refused is the same
-refuses_as : (answer : Uploaded) (R Q : Type 0) → (R → Q) → (Q → R) → UploadRefuses answer R → UploadRefuses
-    answer Q
+refuses_as : (answer : Uploaded) (R Q : Type 0) → (R → Q) → (Q → R) → UploadRefuses answer R
+    → UploadRefuses answer Q
 refuses_as U.Done R Q to back refusal = λ q. refusal (back q)
 refuses_as U.Refused R Q to back refusal = to refusal
 refuses_as U.More R Q to back refusal = tt
@@ -63,8 +63,8 @@ module _ {C O P : Type 0} (client : link.Ghosts C) (origin : link.Ghosts O) (inn
 
     refuses_begun : (list : List ℕ) → CarrierRefuses inner.refuses c list
         → CarrierRefuses inner.refuses d list
-    refuses_begun list (inl r) = inl (subst (λ (ls : List TransformLine). RefusesUpload ls list) (sym
-        lines_same) r)
+    refuses_begun list (inl r) = inl
+        (subst (λ (ls : List TransformLine). RefusesUpload ls list) (sym lines_same) r)
     refuses_begun list (inr r) = inr (subst (λ (o : O). inner.refuses o list) (sym b.origin_is) r)
 
     refused_before : (list : List ℕ) → CarrierRefuses inner.refuses d list
@@ -98,8 +98,8 @@ module _ {C O P : Type 0} (client : link.Ghosts C) (origin : link.Ghosts O) (inn
       };
       causes = record {
         refusal = λ told. refuses_as answer (CarrierRefuses inner.refuses d (source_of client.look f))
-            (CarrierRefuses inner.refuses c (source_of client.look f)) (refused_before (source_of client.look
-            f))
+            (CarrierRefuses inner.refuses c (source_of client.look f))
+            (refused_before (source_of client.look f))
             (refuses_begun (source_of client.look f)) (s.causes.refusal told);
         counts = subst (λ (l : Look). UploadCounts answer fl gl l el) b.look s.causes.counts;
         lacks = subst (λ (l : Look). UploadLacks answer fl gl l el) b.look s.causes.lacks;
@@ -107,13 +107,13 @@ module _ {C O P : Type 0} (client : link.Ghosts C) (origin : link.Ghosts O) (inn
       };
       bytes = subst (λ (l : Look). Uploads client.tells origin.tells fl gl l el) b.look s.bytes;
       keeps = subst (λ (l : Look). UploadKeeps fl gl l el) b.look s.keeps;
-      falls = falls_from answer (carrier_left client origin inner stage f c) (carrier_left client origin inner
-          stage f d)
+      falls = falls_from answer (carrier_left client origin inner stage f c)
+          (carrier_left client origin inner stage f d)
           (carrier_left client origin inner stage g e)
           (both fl.agains (carrier_look origin.tells origin.look c).agains) (both gl.agains el.agains) b.left
           (subst (λ (l : Look). UploadFalls answer (carrier_left client origin inner stage f d)
-          (carrier_left client origin inner stage g e) (both fl.agains l.agains) (both gl.agains el.agains))
-          b.look s.falls);
+          (carrier_left client origin inner stage g e) (both fl.agains l.agains)
+          (both gl.agains el.agains)) b.look s.falls);
       sure = λ sure also. subst (λ (l : Look). UploadsSurely answer fl gl l el) b.look
           (s.sure sure (subst (λ (l : Look). IsSure l) (sym b.look) also));
     }

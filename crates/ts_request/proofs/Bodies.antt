@@ -72,8 +72,8 @@ calm_work true true (Some k) a b less = omega (arith, less)
 
 pub passes_sum : (ls : List TransformLine) (m n : ℕ) → passes ls (m + n) ≡ passes ls m + passes ls n
 passes_sum [] m n = refl
-passes_sum (l ∷ ls) m n = let rest : passes ls (m + n) ≡ passes ls m + passes ls n = passes_sum ls m n in
-    omega (arith, rest)
+passes_sum (l ∷ ls) m n =
+    let rest : passes ls (m + n) ≡ passes ls m + passes ls n = passes_sum ls m n in omega (arith, rest)
 
 passes_least : (ls : List TransformLine) (n : ℕ) → n ≤ passes ls n
 passes_least [] n = omega arith
@@ -81,8 +81,8 @@ passes_least (l ∷ ls) n = omega arith
 
 pub passes_less : (ls : List TransformLine) (m n : ℕ) → m ≤ n → passes ls m ≤ passes ls n
 passes_less [] m n less = less
-passes_less (l ∷ ls) m n less = let rest : passes ls m ≤ passes ls n = passes_less ls m n less in omega
-    (arith, rest, less)
+passes_less (l ∷ ls) m n less =
+    let rest : passes ls m ≤ passes ls n = passes_less ls m n less in omega (arith, rest, less)
 
 stages_within : {P : Type 0} (ss : List (Stage P)) (ls : List TransformLine) (n : ℕ) → length ss ≤ length ls
     → stage_passes ss n ≤ passes ls n
@@ -108,8 +108,8 @@ given_more lines rest c d some of stages first =
     let same : left_to_do rest d [] ≡ passing rest c.stages ((c.first ++ some) ++ []) =
     λ i. passing rest (stages i) (first i ++ []) in
     sum (left_to_do rest d []) (passing rest c.stages ((c.first ++ some) ++ []))
-    (passing rest c.stages (c.first ++ [])) (stage_passes c.stages (length some)) (passes lines (length
-    some)) same more
+    (passing rest c.stages (c.first ++ [])) (stage_passes c.stages (length some))
+    (passes lines (length some)) same more
     within
   where
     sum : (now was before step most : ℕ) → now ≡ was → was ≤ before + step → step ≤ most → now ≤ before + most
@@ -191,8 +191,8 @@ pub ended_cost : (out out' frame left read came : ℕ) → out' ≡ out + frame 
     ≤ write_cost * out + (read + (pass_cost * left + end_cost * to_come false + came))
 ended_cost out out' frame left read came grows short = omega (arith, grows, short)
 
-pub fed_cost : (lines : List TransformLine) (out most held held' piece part some left left' ended came came'
-    : ℕ)
+pub fed_cost : (lines : List TransformLine)
+    (out most held held' piece part some left left' ended came came' : ℕ)
     → held ≡ piece + held' → some ≤ part → part ≤ piece → left' ≤ left + passes lines some
     → came' + 1 ≤ came + piece
     → write_cost * out + (to_read lines most held' + (pass_cost * left' + end_cost * ended + came')) + 1
@@ -217,8 +217,8 @@ module _ {C O P : Type 0} (client : link.Ghosts C) (origin : link.Ghosts O) (inn
     (stage : transform.Ghosts P TransformLine) (client_still : (c : C) → client.still c c)
     (origin_still : (o : O) → origin.still o o) where
   -- a body's way is that of a begun upload
-  way_by : (f : FrontSeen C) (c : Carrier O P) (p : Passage P) (head : HeadState) (passage : Option (Passage
-      P))
+  way_by : (f : FrontSeen C) (c : Carrier O P) (p : Passage P) (head : HeadState)
+      (passage : Option (Passage P))
       → c.passage ≡ passage → passage ≡ Some p → WayBy client origin inner stage head passage f c
       → (len : ℕ) × (line : ℕ) × (head ≡ H.Sent len line) × SendsBody client origin inner stage len line p f c
   way_by f c p H.Held passage same is way =
@@ -235,15 +235,15 @@ module _ {C O P : Type 0} (client : link.Ghosts C) (origin : link.Ghosts O) (inn
 
   pub way_body : (f : FrontSeen C) (c : Carrier O P) (p : Passage P) → c.passage ≡ Some p
       → CarrierPair client origin inner stage f c
-      → (len : ℕ) × (line : ℕ) × (c.head ≡ H.Sent len line) × SendsBody client origin inner stage len line p
-      f c
+      → (len : ℕ) × (line : ℕ) × (c.head ≡ H.Sent len line)
+      × SendsBody client origin inner stage len line p f c
   way_body f c p is pair = way_by f c p c.head c.passage refl is pair.way
 
   -- nothing is done: the answer alone is given
   pub idle_step : (f : FrontSeen C) (c : Carrier O P) (answer : Uploaded) → is_quiet answer ≡ true
       → (answer ≡ U.More → ⊥) → (answer ≡ U.Done → c.over ≡ true)
-      → (client.tells ≡ true → UploadRefuses answer (CarrierRefuses inner.refuses c (source_of client.look
-      f)))
+      → (client.tells ≡ true
+      → UploadRefuses answer (CarrierRefuses inner.refuses c (source_of client.look f)))
       → CarrierPair client origin inner stage f c → UploadsStep client origin inner stage answer f f c c
   idle_step f c answer quiet still done refusal pair =
       quiet_step client origin inner stage client_still origin_still f c c.out c.inbox c.head c.asked c.over
@@ -270,8 +270,8 @@ module _ {C O P : Type 0} (client : link.Ghosts C) (origin : link.Ghosts O) (inn
         (pair.done over).ended)
 
     pub module_way : (len : ℕ) (line : ℕ) → c.head ≡ H.Sent len line
-        → SendsBody client origin inner stage len line q f on_way → CarrierPair client origin inner stage f
-        on_way
+        → SendsBody client origin inner stage len line q f on_way
+        → CarrierPair client origin inner stage f on_way
     module_way len line head_is way = record {
       inside = pair.inside;
       acts = pair.acts;
@@ -280,8 +280,8 @@ module _ {C O P : Type 0} (client : link.Ghosts C) (origin : link.Ghosts O) (inn
       done = λ over. absurd (not_over over);
     }
 
-    module _ (len line : ℕ) (head_is : c.head ≡ H.Sent len line) (b : SendsBody client origin inner stage len
-        line p f c)
+    module _ (len line : ℕ) (head_is : c.head ≡ H.Sent len line)
+        (b : SendsBody client origin inner stage len line p f c)
         (grows : out ≡ c.out ++ more) where
       sent_grows : (origin.look c.origin).taken ++ out ≡ all_sent origin.look c ++ more
       sent_grows = ap (λ xs. (origin.look c.origin).taken ++ xs) grows
@@ -309,8 +309,8 @@ module _ {C O P : Type 0} (client : link.Ghosts C) (origin : link.Ghosts O) (inn
               head = s.head;
               long = s.long;
               text = sent_grows ∙ ap (λ xs. xs ++ more) s.text
-                  ∙ append_assoc (sent_head b.framing (request_lines c) s.head) (own_of origin.look c ++
-                  b.text) more
+                  ∙ append_assoc (sent_head b.framing (request_lines c) s.head)
+                  (own_of origin.look c ++ b.text) more
                   ∙ ap (λ xs. sent_head b.framing (request_lines c) s.head ++ xs)
                   (append_assoc (own_of origin.look c) b.text more);
             };
@@ -331,11 +331,11 @@ module _ {C O P : Type 0} (client : link.Ghosts C) (origin : link.Ghosts O) (inn
                 (taken_grown len line (sent_head b.framing (request_lines c)) (own_of origin.look c)
                 (own_of origin.look c) s.head (own_of origin.look c ++ b.text) more (all_sent origin.look c)
                 ((origin.look c.origin).taken ++ out) unlines s.long s.text sent_grows);
-            carried = subst (λ (h : HeadState). Rattle.ts_request.specs.Carrying.behind_head h (own_of
-                origin.look c)
+            carried = subst
+                (λ (h : HeadState). Rattle.ts_request.specs.Carrying.behind_head h (own_of origin.look c)
                 ((origin.look c.origin).taken ++ out)
-                ≡ Rattle.ts_request.specs.Carrying.behind_head h (own_of origin.look c) (all_sent origin.look
-                c) ++ more)
+                ≡ Rattle.ts_request.specs.Carrying.behind_head h (own_of origin.look c)
+                (all_sent origin.look c) ++ more)
                 (sym head_is)
                 (carried_grown len line (sent_head b.framing (request_lines c)) (own_of origin.look c)
                 (own_of origin.look c) s.head (own_of origin.look c ++ b.text) more (all_sent origin.look c)
@@ -351,8 +351,8 @@ module _ {C O P : Type 0} (client : link.Ghosts C) (origin : link.Ghosts O) (inn
           + (to_read (request_lines c) most (length c.inbox) + passage_left stage.rest p)
 
       abbrev pub cost_after : ℕ
-      cost_after = write_cost * length out + (to_read (request_lines c) most (length inbox) + passage_left
-          stage.rest q)
+      cost_after = write_cost * length out
+          + (to_read (request_lines c) most (length inbox) + passage_left stage.rest q)
 
       work_before : work_left stage.rest most c.head c ≡ cost_before + (to_come c.asked + to_come c.over)
       work_before =
@@ -375,16 +375,16 @@ module _ {C O P : Type 0} (client : link.Ghosts C) (origin : link.Ghosts O) (inn
           sum a b c = omega arith
 
       fewer_on : cost_after + 1 ≤ cost_before
-          → Fewer (carrier_left client origin inner stage f c) (carrier_left client origin inner stage f
-          on_way)
+          → Fewer (carrier_left client origin inner stage f c)
+          (carrier_left client origin inner stage f on_way)
       fewer_on less =
           less_work client.tells origin.tells (inner.upload_left f.client c.origin)
           (work_left stage.rest most c.head c) (work_left stage.rest most c.head on_way)
           (let before = work_before in let after = work_after in omega (arith, before, after, less))
 
       calm_on : cost_after ≤ cost_before
-          → NoMore (carrier_left client origin inner stage f c) (carrier_left client origin inner stage f
-          on_way)
+          → NoMore (carrier_left client origin inner stage f c)
+          (carrier_left client origin inner stage f on_way)
       calm_on less =
           calm_work client.tells origin.tells (inner.upload_left f.client c.origin)
           (work_left stage.rest most c.head c) (work_left stage.rest most c.head on_way)
@@ -393,8 +393,8 @@ module _ {C O P : Type 0} (client : link.Ghosts C) (origin : link.Ghosts O) (inn
       -- a step of the way that moves something
       pub more_step : (fed read : List ℕ) → q.mode ≡ p.mode
           → (client.tells ≡ true → handed_of client.look f ≡ fed ++ inbox)
-          → Writes stage (request_lines c) b.framing fed read (b.text ++ more) q → cost_after + 1 ≤
-          cost_before
+          → Writes stage (request_lines c) b.framing fed read (b.text ++ more) q
+          → cost_after + 1 ≤ cost_before
           → UploadsStep client origin inner stage U.More f f c on_way
       more_step fed read mode came writes less =
           quiet_step client origin inner stage client_still origin_still f c out inbox c.head c.asked c.over
@@ -412,8 +412,8 @@ module _ {C O P : Type 0} (client : link.Ghosts C) (origin : link.Ghosts O) (inn
       lost_step fed read mode came writes less same =
           quiet_step client origin inner stage client_still origin_still f c out inbox c.head c.asked c.over
           (Some q)
-          U.NoMemory refl (module_way len line head_is (sends_on fed read mode came writes)) (λ told. tt)
-          tells_on
+          U.NoMemory refl (module_way len line head_is (sends_on fed read mode came writes))
+          (λ told. tt) tells_on
           (λ e. ap (λ xs. carrier_look origin.tells origin.look (record c { out = xs })) same)
           (λ e. absurd (let wrong : U.NoMemory ≡ U.Done = e in cc))
           (λ e. absurd (let wrong : U.NoMemory ≡ U.More = e in cc)) (calm_on less)

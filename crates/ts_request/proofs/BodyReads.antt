@@ -101,8 +101,8 @@ not_waits true (Some p) stalls none = absurd (stalls refl none)
 
 -- ---- what a front shows does not change with what is handed over
 
-given_stays : (s : Stage) (framing : Framing) (t : Text) (behind given given' : List ℕ) → s ≡ S.Uploading
-    framing
+given_stays : (s : Stage) (framing : Framing) (t : Text) (behind given given' : List ℕ)
+    → s ≡ S.Uploading framing
     → given_by s (record t { behind = behind }) given' ≡ given_by s t given
 given_stays S.Heading framing t behind given given' is = absurd (let wrong : S.Heading ≡ S.Uploading framing
     = is in cc)
@@ -132,10 +132,10 @@ rose_calm (Some k) None n none rose = rose
 rose_calm (Some k) (Some m) n none rose = omega (arith, none, rose)
 
 -- what came is less to read
-read_cost : (lines : List TransformLine) (out most most' held held' n rest : ℕ) → held' ≡ held + n → most' +
-    n ≡ most
-    → write_cost * out + (to_read lines most' held' + rest) + n ≡ write_cost * out + (to_read lines most held
-    + rest)
+read_cost : (lines : List TransformLine) (out most most' held held' n rest : ℕ) → held' ≡ held + n
+    → most' + n ≡ most
+    → write_cost * out + (to_read lines most' held' + rest) + n
+    ≡ write_cost * out + (to_read lines most held + rest)
 read_cost lines out most most' held held' n rest came left =
     let same : most' + held' ≡ most + held = omega (arith, came, left) in
     let all = ap (Rattle.ts_passing.specs.Lines.passes lines) same in
@@ -143,8 +143,8 @@ read_cost lines out most most' held held' n rest came left =
 
 module _ {C O P : Type 0} (client : link.Ghosts C) (origin : link.Ghosts O) (inner : upstream.Ghosts O C)
     (stage : transform.Ghosts P TransformLine) (client_still : (c : C) → client.still c c)
-    (origin_still : (o : O) → origin.still o o) (f : FrontSeen C) (c : Carrier O P) (k : C) (behind inbox
-    into : List ℕ)
+    (origin_still : (o : O) → origin.still o o) (f : FrontSeen C) (c : Carrier O P) (k : C)
+    (behind inbox into : List ℕ)
     (got : Got) where
   abbrev pub front_on : FrontSeen C
   front_on = record f { client = k; text = record f.text { behind = behind } }
@@ -153,8 +153,8 @@ module _ {C O P : Type 0} (client : link.Ghosts C) (origin : link.Ghosts O) (inn
   read_on = record c { inbox = inbox }
 
   module _ (pair : CarrierPair client origin inner stage f c) (asked : c.asked ≡ true) (p : Passage P)
-      (is : c.passage ≡ Some p) (unended : p.ended ≡ false) (grows : inbox ≡ c.inbox ++ take (count_got got)
-      into)
+      (is : c.passage ≡ Some p) (unended : p.ended ≡ false)
+      (grows : inbox ≡ c.inbox ++ take (count_got got) into)
       (reads : ReadsBody client.tells f.text (record f.text { behind = behind }) (client.look f.client)
       (client.look k)
       got into) (still : client.still f.client k) (inside : inner.paired k c.origin)
@@ -195,18 +195,18 @@ module _ {C O P : Type 0} (client : link.Ghosts C) (origin : link.Ghosts O) (inn
 
     not_over : c.over ≡ true → ⊥
     not_over over =
-        false≢true (sym unended ∙ subst (λ (x : Option (Passage P)). Rattle.ts_request.specs.Pairing.IsEnded
-        x) is
+        false≢true
+        (sym unended ∙ subst (λ (x : Option (Passage P)). Rattle.ts_request.specs.Pairing.IsEnded x) is
         (pair.done over).ended)
 
     pub pair_read : CarrierPair client origin inner stage front_on read_on
     pair_read = record {
       inside = inside;
       acts = pair.acts;
-      way = subst (λ (h : HeadState). WayBy client origin inner stage h c.passage front_on read_on) (sym
-          way.2)
-          (subst (λ (x : Option (Passage P)). WayBy client origin inner stage (H.Sent way.0 way.1) x front_on
-          read_on)
+      way = subst (λ (h : HeadState). WayBy client origin inner stage h c.passage front_on read_on)
+          (sym way.2)
+          (subst (λ (x : Option (Passage P)). WayBy client origin inner stage
+          (H.Sent way.0 way.1) x front_on read_on)
           (sym is) sends_read);
       own_done = λ done told refused. pair.own_done done told
           (subst (λ (list : List ℕ). inner.refuses c.origin list) source_same refused);
@@ -227,14 +227,14 @@ module _ {C O P : Type 0} (client : link.Ghosts C) (origin : link.Ghosts O) (inn
         uploading refl in
         let was = most_is f.text.stage way.3.framing f.text (client.look f.client) uploading refl in
         let all = ap length (reads.told told).left
-        ∙ length-append (take (count_got got) into) (body_left (record f.text { behind = behind })
-        (client.look k)) in
+        ∙ length-append (take (count_got got) into)
+        (body_left (record f.text { behind = behind }) (client.look k)) in
         omega (arith, now, was, all)
 
     work_is : (n : ℕ) (d : Carrier O P) → d.head ≡ c.head → d.passage ≡ c.passage
         → work_left stage.rest n d.head d
-        ≡ write_cost * length d.out + (to_read (request_lines d) n (length d.inbox) + passage_left stage.rest
-        p)
+        ≡ write_cost * length d.out
+        + (to_read (request_lines d) n (length d.inbox) + passage_left stage.rest p)
         + (to_come d.asked + to_come d.over)
     work_is n d same also =
         ap (λ h. work_left stage.rest n h d) (same ∙ way.2)
@@ -265,8 +265,8 @@ module _ {C O P : Type 0} (client : link.Ghosts C) (origin : link.Ghosts O) (inn
         (taken_since (origin.look c.origin) (origin.look c.origin)) none_since rose
 
     calm_by : (t : Bool) → (t ≡ true → client.tells ≡ true)
-        → NoMore (left_if t origin.tells (inner.upload_left f.client c.origin) (work_left stage.rest most
-        c.head c))
+        → NoMore
+        (left_if t origin.tells (inner.upload_left f.client c.origin) (work_left stage.rest most c.head c))
         (left_if t origin.tells (inner.upload_left k c.origin) (work_left stage.rest most_on c.head read_on))
     calm_by true told =
         let fell = work_falls (told refl) in
@@ -276,8 +276,8 @@ module _ {C O P : Type 0} (client : link.Ghosts C) (origin : link.Ghosts O) (inn
     calm_by false told = tt
 
     fewer_by : (t : Bool) → (t ≡ true → client.tells ≡ true) → 1 ≤ length (take (count_got got) into)
-        → Fewer (left_if t origin.tells (inner.upload_left f.client c.origin) (work_left stage.rest most
-        c.head c))
+        → Fewer (left_if t origin.tells (inner.upload_left f.client c.origin)
+        (work_left stage.rest most c.head c))
         (left_if t origin.tells (inner.upload_left k c.origin) (work_left stage.rest most_on c.head read_on))
     fewer_by true told some =
         let fell = work_falls (told refl) in
@@ -286,8 +286,8 @@ module _ {C O P : Type 0} (client : link.Ghosts C) (origin : link.Ghosts O) (inn
         (omega (arith, fell, some))
     fewer_by false told some = tt
 
-    pub read_step : (client.tells ≡ true → got ≡ G.End → CarrierRefuses inner.refuses c (source_of
-        client.look f))
+    pub read_step : (client.tells ≡ true → got ≡ G.End
+        → CarrierRefuses inner.refuses c (source_of client.look f))
         → UploadsStep client origin inner stage (answer_read got) f front_on c read_on
     read_step refused =
         let fl = front_look client.look f in
@@ -331,10 +331,10 @@ module _ {C O P : Type 0} (client : link.Ghosts C) (origin : link.Ghosts O) (inn
               name = reads.calls.name;
               plan = reads.calls.plan;
               before = reads.calls.before;
-              faults = counted_up (got_failed got) (client.look f.client).faults (client.look k).faults
-                  reads.calls.faults;
-              waits = counted_up (got_again got) (client.look f.client).waits (client.look k).waits
-                  reads.calls.waits;
+              faults = counted_up (got_failed got) (client.look f.client).faults
+                  (client.look k).faults reads.calls.faults;
+              waits = counted_up (got_again got) (client.look f.client).waits
+                  (client.look k).waits reads.calls.waits;
             };
             reads = refl;
             writes = reads.writes;
@@ -354,16 +354,16 @@ module _ {C O P : Type 0} (client : link.Ghosts C) (origin : link.Ghosts O) (inn
               (both gl.agains dl.agains)
               (λ e. fewer_by client.tells (λ told. told) (some_read got into reads.fills e))
               (calm_by client.tells (λ told. told))
-              (subst (λ b. AgainsFall b (both fl.agains cl.agains) (both gl.agains dl.agains)) (sym
-              (waits_read got))
+              (subst (λ b. AgainsFall b (both fl.agains cl.agains) (both gl.agains dl.agains))
+              (sym (waits_read got))
               (both_less_first (got_again got) fl.agains gl.agains cl.agains reads.calls.agains));
           sure = λ sure also.
               let went = reads.sure sure in
               record {
                 faults = λ never. (
                   failed_read got ∙ went.0,
-                  counted_same (got_failed got) (client.look f.client).faults (client.look k).faults went.0
-                      reads.calls.faults,
+                  counted_same (got_failed got) (client.look f.client).faults
+                      (client.look k).faults went.0 reads.calls.faults,
                   refl,
                 );
                 waits = λ none also_none. waits_read got
@@ -375,8 +375,8 @@ module _ {C O P : Type 0} (client : link.Ghosts C) (origin : link.Ghosts O) (inn
 
 module _ {C O P : Type 0} (client : link.Ghosts C) (origin : link.Ghosts O) (inner : upstream.Ghosts O C)
     (stage : transform.Ghosts P TransformLine) (client_still : (c : C) → client.still c c)
-    (origin_still : (o : O) → origin.still o o) (f g : FrontSeen C) (c : Carrier O P) (inbox : List ℕ) (got :
-    Got)
+    (origin_still : (o : O) → origin.still o o) (f g : FrontSeen C) (c : Carrier O P) (inbox : List ℕ)
+    (got : Got)
     (pair : CarrierPair client origin inner stage f c) (asked : c.asked ≡ true) (p : Passage P)
     (is : c.passage ≡ Some p) (next : IsNext p c.inbox N.Read)
     (r : ReadsOn client f g c.inbox inbox got) (still : client.still f.client g.client)
@@ -394,9 +394,9 @@ module _ {C O P : Type 0} (client : link.Ghosts C) (origin : link.Ghosts O) (inn
 
   reads_is : ReadsBody client.tells f.text (record f.text { behind = g.text.behind }) (client.look f.client)
       (client.look g.client) got r.into
-  reads_is = subst (λ (t : Text). ReadsBody client.tells f.text t (client.look f.client) (client.look
-      g.client) got r.into)
-      r.reads.text r.reads
+  reads_is = subst
+      (λ (t : Text). ReadsBody client.tells f.text t (client.look f.client)
+      (client.look g.client) got r.into) r.reads.text r.reads
 
   abbrev pub carrier_read : Carrier O P
   carrier_read = record c { inbox = inbox }
@@ -430,8 +430,8 @@ module _ {C O P : Type 0} (client : link.Ghosts C) (origin : link.Ghosts O) (inn
       told over) told))
 
   pub read_by : UploadsStep client origin inner stage (answer_read got) f g c carrier_read
-  read_by = subst (λ (x : FrontSeen C). UploadsStep client origin inner stage (answer_read got) f x c
-      carrier_read)
+  read_by = subst
+      (λ (x : FrontSeen C). UploadsStep client origin inner stage (answer_read got) f x c carrier_read)
       (sym front_is)
       (read_step client origin inner stage client_still origin_still f c g.client g.text.behind inbox r.into
       got pair asked

@@ -101,8 +101,8 @@ module _ {C O P : Type 0} (client : link.Ghosts C) (origin : link.Ghosts O) (inn
         + (to_read lines most (length c.inbox) + passage_left stage.rest x) + 1
         ≤ Rattle.ts_request.specs.BodyWay.write_cost * length c.out
         + (to_read lines most (length c.inbox) + passage_left stage.rest p)) (sym ok.others)
-        (framed_cost (length c.out) (length out) (length frame) (length ok.piece) (left_to_do stage.rest
-        p.chain [])
+        (framed_cost (length c.out) (length out) (length frame) (length ok.piece)
+        (left_to_do stage.rest p.chain [])
         (left_to_do stage.rest q.chain []) (to_read lines most (length c.inbox)) (to_come p.ended)
         (more_comes (state_of p.body.phase)) (ap length ok.frame ∙ length-append c.out frame)
         (length-frame_of p.mode ok.piece ok.good) (ok.takes.falls []) ok.good.0))
@@ -117,8 +117,8 @@ module _ {C O P : Type 0} (client : link.Ghosts C) (origin : link.Ghosts O) (inn
         is pair len
         line head_is b (sym (append-nil c.out)) b.fed b.read (ap (λ (x : Passage P). x.mode) ok.others) b.came
         (subst (λ (t : List ℕ). Rattle.ts_request.specs.BodyWay.Writes stage lines b.framing b.fed b.read t q)
-        (sym (append-nil b.text)) (writes_worked stage lines b.framing b.fed b.read b.text p q ok unended
-        b.writes))
+        (sym (append-nil b.text))
+        (writes_worked stage lines b.framing b.fed b.read b.text p q ok unended b.writes))
         (subst (λ (x : Passage P). Rattle.ts_request.specs.BodyWay.write_cost * length c.out
         + (to_read lines most (length c.inbox) + passage_left stage.rest x) + 1
         ≤ Rattle.ts_request.specs.BodyWay.write_cost * length c.out
@@ -138,8 +138,8 @@ module _ {C O P : Type 0} (client : link.Ghosts C) (origin : link.Ghosts O) (inn
     end_by out (Ok x) ends ok also err =
         let (len, line, head_is, b) = way_body client origin inner stage client_still origin_still f c p is
         pair in
-        more_step client origin inner stage client_still origin_still f c p q out c.inbox (end_of p.mode)
-        asked unended is
+        more_step client origin inner stage client_still origin_still f c p q out c.inbox
+        (end_of p.mode) asked unended is
         pair len line head_is b ok b.fed b.read (ap (λ (x : Passage P). x.mode) also) b.came
         (writes_ended stage lines b.framing b.fed b.read b.text p q also unended ends b.writes)
         (subst (λ (x : Passage P). Rattle.ts_request.specs.BodyWay.write_cost * length out
@@ -148,8 +148,8 @@ module _ {C O P : Type 0} (client : link.Ghosts C) (origin : link.Ghosts O) (inn
         + (to_read lines most (length c.inbox) + passage_left stage.rest p)) (sym also)
         (subst (λ (e : Bool). Rattle.ts_request.specs.BodyWay.write_cost * length out
         + (to_read lines most (length c.inbox)
-        + (Rattle.ts_request.specs.BodyWay.pass_cost * left_to_do stage.rest p.chain [] + end_cost * to_come
-        true
+        + (Rattle.ts_request.specs.BodyWay.pass_cost * left_to_do stage.rest p.chain []
+        + end_cost * to_come true
         + more_comes (state_of p.body.phase))) + 1
         ≤ Rattle.ts_request.specs.BodyWay.write_cost * length c.out
         + (to_read lines most (length c.inbox)
@@ -199,8 +199,8 @@ module _ {C O P : Type 0} (client : link.Ghosts C) (origin : link.Ghosts O) (inn
         let got = got_some (state_of q.body.phase) feeds.part p.chain q.chain feeds.gets in
         let ended : to_come q.ended ≡ to_come p.ended = ap to_come ok.ended in
         let cost = fed_cost lines (length c.out) most (length c.inbox) (length inbox) (length feeds.piece)
-        (length feeds.part) (length got.some) (left_to_do stage.rest p.chain []) (left_to_do stage.rest
-        q.chain [])
+        (length feeds.part) (length got.some) (left_to_do stage.rest p.chain [])
+        (left_to_do stage.rest q.chain [])
         (to_come p.ended) (more_comes (state_of p.body.phase)) (more_comes (state_of q.body.phase))
         (ap length feeds.taken ∙ length-append feeds.piece inbox) got.within feeds.within
         (given_more lines stage.rest p.chain q.chain got.some way.of_lines got.stages got.first)
@@ -208,17 +208,17 @@ module _ {C O P : Type 0} (client : link.Ghosts C) (origin : link.Ghosts O) (inn
         more_step client origin inner stage client_still origin_still f c p q c.out inbox [] asked unended is
         pair len line
         head_is b (sym (append-nil c.out)) (b.fed ++ feeds.piece) (b.read ++ feeds.part) ok.mode
-        (λ told. b.came told ∙ ap (λ xs. b.fed ++ xs) feeds.taken ∙ sym (append_assoc b.fed feeds.piece
-        inbox))
-        (subst (λ (t : List ℕ). Rattle.ts_request.specs.BodyWay.Writes stage lines b.framing (b.fed ++
-        feeds.piece)
+        (λ told. b.came told ∙ ap (λ xs. b.fed ++ xs) feeds.taken
+        ∙ sym (append_assoc b.fed feeds.piece inbox))
+        (subst (λ (t : List ℕ). Rattle.ts_request.specs.BodyWay.Writes stage lines b.framing
+        (b.fed ++ feeds.piece)
         (b.read ++ feeds.part) t q) (sym (append-nil b.text))
         (writes_fed stage lines b.framing b.fed b.read b.text c.inbox inbox p q stalls.kept going ok unended
         b.writes))
         (omega (arith, cost, ended))
       where
-        moved : (s : BodyState) (n : ℕ) → more_comes (state_of p.body.phase) ≡ 1 → (0 < n) ⊎ (s ≢
-            B.Unfinished)
+        moved : (s : BodyState) (n : ℕ) → more_comes (state_of p.body.phase) ≡ 1
+            → (0 < n) ⊎ (s ≢ B.Unfinished)
             → more_comes s + 1 ≤ more_comes (state_of p.body.phase) + n
         moved s n one (inl some) = let least = one_more_comes s in omega (arith, one, least, some)
         moved s n one (inr over) = let none = comes_over s over in omega (arith, one, none)

@@ -1,6 +1,5 @@
 -- The way of a request's body: each step keeps what holds of it, and what was framed is a front of the
--- request
--- lines' work, and at the end the whole.
+-- request lines' work, and at the end the whole.
 use Rattle.std.proofs.Common.{◌≡◌, ◌≢◌, ℕ, inl, inr, List, [], ◌∷◌, ◌++◌, length, Bool, true, false, arith}
 use Rattle.std.proofs.Common.{refl, sym, ap, subst, ◌∙◌}
 use Rattle.std.specs.Prelude.{Option, Some, flat_map}
@@ -47,8 +46,8 @@ taken_changes {P} rest from (s ∷ ss) n from' (s' ∷ ss') takes all = (
   taken_changes rest s.after ss n s'.after ss' takes.2 all.1,
 )
 
-taken_lines : {P : Type 0} (lines : List TransformLine) (rest : P → List ℕ → List ℕ) (n : ℕ) (c d :
-    ChainState P)
+taken_lines : {P : Type 0} (lines : List TransformLine) (rest : P → List ℕ → List ℕ) (n : ℕ)
+    (c d : ChainState P)
     → TakesAway rest n c d → IsOfSome lines rest c → IsOfSome lines rest d
 taken_lines lines rest n c d takes of = record {
   few = omega (arith, takes.len, of.few);
@@ -80,12 +79,12 @@ cut_more pieces piece =
     ∙ ap (λ (x : List ℕ). cut_body pieces ++ x) (append-nil piece)
 
 -- and so is the end
-ended_more : (mode : Mode) (pieces : List (List ℕ)) → frames mode pieces false ++ end_of mode ≡ frames mode
-    pieces true
+ended_more : (mode : Mode) (pieces : List (List ℕ))
+    → frames mode pieces false ++ end_of mode ≡ frames mode pieces true
 ended_more mode pieces = ap (λ (x : List ℕ). x ++ end_of mode) (append-nil (flat_map (frame_of mode) pieces))
 
-module _ {P : Type 0} (stage : transform.Ghosts P TransformLine) (lines : List TransformLine) (framing :
-    Framing)
+module _ {P : Type 0} (stage : transform.Ghosts P TransformLine) (lines : List TransformLine)
+    (framing : Framing)
   where
     -- ---- each step keeps what holds of the way
 
@@ -95,20 +94,20 @@ module _ {P : Type 0} (stage : transform.Ghosts P TransformLine) (lines : List T
         → Sends stage.rest stage.soon lines (read ++ part) sent d
     got_sends B.Unfinished read part sent c d going gets s =
         subst (λ (x : ChainState P). Sends stage.rest stage.soon lines (read ++ part) sent x)
-        (sym (gets ∙ ap (λ (b : Bool). record c { first = given_if (wants c) c.first part; given = b })
-        going))
+        (sym (gets
+        ∙ ap (λ (b : Bool). record c { first = given_if (wants c) c.first part; given = b }) going))
         (sends_given stage.rest stage.soon lines read sent part c false going s)
     got_sends B.Ended read part sent c d going gets s =
         subst (λ (x : ChainState P). Sends stage.rest stage.soon lines (read ++ part) sent x) (sym gets)
         (sends_given stage.rest stage.soon lines read sent part c true going s)
     got_sends B.Bad read part sent c d going gets s =
         subst (λ (x : ChainState P). Sends stage.rest stage.soon lines (read ++ part) sent x)
-        (sym (gets ∙ ap (λ (b : Bool). record c { first = given_if (wants c) c.first part; given = b })
-        going))
+        (sym (gets
+        ∙ ap (λ (b : Bool). record c { first = given_if (wants c) c.first part; given = b }) going))
         (sends_given stage.rest stage.soon lines read sent part c false going s)
 
-    got_over : (state : BodyState) (part : List ℕ) (c d : ChainState P) → c.given ≡ false → GetsPart state
-        part c d
+    got_over : (state : BodyState) (part : List ℕ) (c d : ChainState P) → c.given ≡ false
+        → GetsPart state part c d
         → d.given ≡ true → state ≡ B.Ended
     got_over B.Unfinished part c d going gets given =
         absurd (true≢false (sym given ∙ ap (λ (x : ChainState P). x.given) gets ∙ going))
@@ -130,8 +129,8 @@ module _ {P : Type 0} (stage : transform.Ghosts P TransformLine) (lines : List T
     got_stages B.Bad part c d gets = ap (λ (x : ChainState P). x.stages) gets
 
     -- a block is fed
-    pub passes_fed : (fed read sent before after : List ℕ) (p q : Passage P) → p.lost ≡ false → p.chain.given
-        ≡ false
+    pub passes_fed : (fed read sent before after : List ℕ) (p q : Passage P) → p.lost ≡ false
+        → p.chain.given ≡ false
         → (f : FeedsPassage p q before after) → Passes stage lines framing fed read sent p
         → Passes stage lines framing (fed ++ f.feeds.piece) (read ++ f.feeds.part) sent q
     passes_fed fed read sent before after p q kept going f w =
@@ -191,8 +190,8 @@ module _ {P : Type 0} (stage : transform.Ghosts P TransformLine) (lines : List T
       is_fed = w.is_fed;
       now = λ kept. ap (λ (x : Passage P). x.body) f.others
           ∙ w.now (sym (ap (λ (x : Passage P). x.lost) f.others) ∙ kept);
-      sends = sends_taken stage.rest stage.soon lines read sent f.piece (length f.piece) p.chain q.chain
-          f.takes
+      sends = sends_taken stage.rest stage.soon lines read sent f.piece
+          (length f.piece) p.chain q.chain f.takes
           f.front w.sends;
       over = λ given. w.over (sym f.takes.given ∙ given);
       goes_on = λ goes. w.goes_on (sym f.takes.given ∙ goes);
@@ -201,8 +200,8 @@ module _ {P : Type 0} (stage : transform.Ghosts P TransformLine) (lines : List T
 
     -- ---- and of the text
 
-    pub writes_fed : (fed read text before after : List ℕ) (p q : Passage P) → p.lost ≡ false → p.chain.given
-        ≡ false
+    pub writes_fed : (fed read text before after : List ℕ) (p q : Passage P) → p.lost ≡ false
+        → p.chain.given ≡ false
         → (f : FeedsPassage p q before after) → p.ended ≡ false → Writes stage lines framing fed read text p
         → Writes stage lines framing (fed ++ f.feeds.piece) (read ++ f.feeds.part) text q
     writes_fed fed read text before after p q kept going f unended w = record {
@@ -224,8 +223,8 @@ module _ {P : Type 0} (stage : transform.Ghosts P TransformLine) (lines : List T
           (w.finished (sym loses.ended ∙ ended));
     }
 
-    pub writes_worked : (fed read text : List ℕ) (p q : Passage P) → Works stage.rest stage.soon p q →
-        p.ended ≡ false
+    pub writes_worked : (fed read text : List ℕ) (p q : Passage P) → Works stage.rest stage.soon p q
+        → p.ended ≡ false
         → Writes stage lines framing fed read text p → Writes stage lines framing fed read text q
     writes_worked fed read text p q works unended w = record {
       pieces = w.pieces;
@@ -233,8 +232,8 @@ module _ {P : Type 0} (stage : transform.Ghosts P TransformLine) (lines : List T
       text_is = w.text_is
           ∙ sym (ap (λ (x : Passage P). frames x.mode w.pieces x.ended) works.others);
       way = passes_worked fed read (cut_body w.pieces) p q works w.way;
-      finished = λ ended. absurd (true≢false (sym ended ∙ ap (λ (x : Passage P). x.ended) works.others ∙
-          unended));
+      finished = λ ended. absurd
+          (true≢false (sym ended ∙ ap (λ (x : Passage P). x.ended) works.others ∙ unended));
     }
 
     pub writes_framed : (fed read text before after : List ℕ) (p q : Passage P)
@@ -253,20 +252,20 @@ module _ {P : Type 0} (stage : transform.Ghosts P TransformLine) (lines : List T
           ∙ sym (ap (λ (x : Passage P). frames x.mode (w.pieces ++ f.piece ∷ []) x.ended) f.others);
       way = subst (λ (s : List ℕ). Passes stage lines framing fed read s q) (sym (cut_more w.pieces f.piece))
           (passes_framed fed read (cut_body w.pieces) before after p q f w.way);
-      finished = λ ended. absurd (true≢false (sym ended ∙ ap (λ (x : Passage P). x.ended) f.others ∙
-          unended));
+      finished = λ ended. absurd
+          (true≢false (sym ended ∙ ap (λ (x : Passage P). x.ended) f.others ∙ unended));
     }
 
-    pub writes_ended : (fed read text : List ℕ) (p q : Passage P) → q ≡ record p { ended = true } → p.ended ≡
-        false
+    pub writes_ended : (fed read text : List ℕ) (p q : Passage P) → q ≡ record p { ended = true }
+        → p.ended ≡ false
         → IsFinished p.chain → Writes stage lines framing fed read text p
         → Writes stage lines framing fed read (text ++ end_of p.mode) q
     writes_ended fed read text p q others unended ends w = record {
       pieces = w.pieces;
       each = w.each;
       text_is =
-          ap (λ (x : List ℕ). x ++ end_of p.mode) (w.text_is ∙ ap (λ (b : Bool). frames p.mode w.pieces b)
-          unended)
+          ap (λ (x : List ℕ). x ++ end_of p.mode)
+          (w.text_is ∙ ap (λ (b : Bool). frames p.mode w.pieces b) unended)
           ∙ ended_more p.mode w.pieces
           ∙ sym (ap (λ (x : Passage P). frames x.mode w.pieces x.ended) others);
       way = passes_same fed read (cut_body w.pieces) p q (ap (λ (x : Passage P). x.chain) others) w.way

@@ -13,9 +13,8 @@ use Rattle.ts_upstream.specs.declared.upstream.Upstream as upstream
 use Rattle.ts_wire.specs.Body.{BodyOf}
 use Rattle.ts_wire.specs.Frames.{cut_body, frames}
 use Rattle.ts_wire.specs.Place.{state_of}
-use Rattle.ts_request.specs.BodyWay.{IsFrontOf}
 use Rattle.ts_request.specs.Carrying.{IsFreshCarrier, behind_head, request_lines, without_line}
-use Rattle.ts_request.specs.Delivered.{Delivers, Took, plain, upload, upload_text}
+use Rattle.ts_request.specs.Delivered.{Delivers, Took, held, plain, upload, upload_text}
 use Rattle.ts_request.specs.Front.{FrontSeen, fresh_front}
 use Rattle.ts_request.specs.Pairing.{CarrierPair, HoldsBack, IsDone, SendsBody, SendsPlain, StandsFirst}
 use Rattle.ts_request.specs.Pairing.{WayBy, all_sent, handed_of, own_of, source_of}
@@ -39,9 +38,6 @@ module _ {C O P : Type 0} (client : link.Ghosts C) (origin : link.Ghosts O) (inn
   all_taken : (text : List ℕ) → all_sent origin.look c ≡ text → c.out ≡ [] → taken ≡ text
   all_taken text is empty = sym (append-nil taken) ∙ ap (λ xs. taken ++ xs) (sym empty) ∙ is
 
-  front_taken : (text : List ℕ) → all_sent origin.look c ≡ text → IsFrontOf taken text
-  front_taken text is = (c.out, sym is)
-
   -- what is told, by what stands first
   abbrev Tells : HeadState → List ℕ → Type 0
   Tells h head = without_line h (all_sent origin.look c)
@@ -56,8 +52,8 @@ module _ {C O P : Type 0} (client : link.Ghosts C) (origin : link.Ghosts O) (inn
 
   took_body : (len line : ℕ) (p : Passage P) → c.passage ≡ Some p
       → (b : SendsBody client origin inner stage len line p f c) → (s : StandsFirst origin.look len
-      (sent_head b.framing (request_lines c)) (own_of origin.look c ++ b.text) c) → Took client origin f c
-      s.head
+      (sent_head b.framing (request_lines c)) (own_of origin.look c ++ b.text) c)
+      → Took client origin f c s.head
   took_body len line p is b s =
       let lines = request_lines c in
       let way = b.writes.way in
@@ -72,15 +68,17 @@ module _ {C O P : Type 0} (client : link.Ghosts C) (origin : link.Ghosts O) (inn
         read = b.read;
         state = state_of way.place.phase;
         body = subst (λ (x : List ℕ). BodyOf b.framing x b.read (state_of way.place.phase)) (append-nil b.fed)
-            (body_fed b.framing b.fed b.read [] way.place (state_of way.place.phase) way.is_fed refl (λ e.
-            refl));
+            (body_fed b.framing b.fed b.read [] way.place (state_of way.place.phase) way.is_fed refl
+            (λ e. refl));
         pieces = b.writes.pieces;
         each = b.writes.each;
         fin = p.ended;
-        took = front_taken (upload_text b.framing lines s.head b.writes.pieces p.ended) text;
+        took = text;
         ended = p.chain.given;
         ends = way.over;
         front = passes_front stage lines b.framing b.fed b.read (cut_body b.writes.pieces) p way;
+        closes = λ fin. finished_whole stage lines b.framing b.fed b.read (cut_body b.writes.pieces) p
+            (b.writes.finished fin) way;
         whole = λ over.
             let done = pair.done over in
             let ended : p.ended ≡ true =
@@ -95,24 +93,24 @@ module _ {C O P : Type 0} (client : link.Ghosts C) (origin : link.Ghosts O) (inn
             };
       })
 
-  by_state : (h : HeadState) (passage : Option (Passage P)) → c.passage ≡ passage
-      → WayBy client origin inner stage h passage f c → (head : List ℕ) × Tells h head × Took client origin f
-      c head
-  by_state H.Held passage same way =
+  by_state : (h : HeadState) (passage : Option (Passage P)) → c.head ≡ h → c.passage ≡ passage
+      → WayBy client origin inner stage h passage f c
+      → (head : List ℕ) × Tells h head × Took client origin f c head
+  by_state H.Held passage at same way =
       let empty : taken ≡ [] = way.taken tells in (
         all_sent origin.look c,
         sym (append-nil (all_sent origin.look c)) ∙ ap (λ xs. all_sent origin.look c ++ xs) (sym none),
-        plain (c.out, refl) (λ over. absurd (false≢true (sym way.over ∙ over))),
+        held at empty way.over,
       )
-  by_state (H.Sent len line) None same way =
+  by_state (H.Sent len line) None at same way =
       let s = way.stands tells in
       let text = s.text ∙ ap (λ own. s.head ++ own) none ∙ append-nil s.head in (
         s.head,
-        told_by len line (λ head. head) s.head (own_of origin.look c) (unlines_plain len line way.line_is)
-            s.long s.text,
-        plain (front_taken s.head text) (λ over. (all_taken s.head text (pair.done over).sent, way.lacks)),
+        told_by len line (λ head. head) s.head (own_of origin.look c)
+            (unlines_plain len line way.line_is) s.long s.text,
+        plain way.lacks text (λ over. all_taken s.head text (pair.done over).sent),
       )
-  by_state (H.Sent len line) (Some p) same way =
+  by_state (H.Sent len line) (Some p) at same way =
       let s = way.stands tells in (
         s.head,
         told_by len line (sent_head way.framing (request_lines c)) s.head (own_of origin.look c ++ way.text)
@@ -122,7 +120,7 @@ module _ {C O P : Type 0} (client : link.Ghosts C) (origin : link.Ghosts O) (inn
 
   pub delivers : Delivers client origin f c
   delivers =
-      let found = by_state c.head c.passage refl pair.way in
+      let found = by_state c.head c.passage refl refl pair.way in
       record {
         head = found.0;
         told = told_is origin.tells _ [] tells ∙ found.1
@@ -133,8 +131,8 @@ module _ {C O P : Type 0} (client : link.Ghosts C) (origin : link.Ghosts O) (inn
 -- ---- a front and a carrier of which no call was made
 
 module _ {C O P : Type 0} (client : link.Ghosts C) (origin : link.Ghosts O) (inner : upstream.Ghosts O C)
-    (stage : transform.Ghosts P TransformLine) (f : FrontSeen C) (c : Carrier O P) (l : C) (o : O) (setup :
-    Setup)
+    (stage : transform.Ghosts P TransformLine) (f : FrontSeen C) (c : Carrier O P) (l : C) (o : O)
+    (setup : Setup)
     (fresh : f ≡ fresh_front l) (made : IsFreshCarrier o setup c) (inside : inner.paired l o)
     (acts : ActsAsLines stage)
     (new : origin.tells ≡ true → ((origin.look o).taken ≡ []) × ((origin.look o).carried ≡ [])) where
@@ -155,8 +153,8 @@ module _ {C O P : Type 0} (client : link.Ghosts C) (origin : link.Ghosts O) (inn
     inside = subst (λ (x : O). inner.paired f.client x) (sym made.origin_is)
         (subst (λ (x : FrontSeen C). inner.paired x.client o) (sym fresh) inside);
     acts = acts;
-    way = subst (λ (h : HeadState). WayBy client origin inner stage h c.passage f c) (sym made.head)
-        held_fresh;
+    way = subst (λ (h : HeadState). WayBy client origin inner stage h c.passage f c)
+        (sym made.head) held_fresh;
     own_done = λ asked told refused. absurd (false≢true (sym made.asked ∙ asked));
     done = λ over. absurd (false≢true (sym made.over ∙ over));
   }

@@ -37,8 +37,8 @@ use Rattle.ts_request.proofs.Steps.{quiet_step}
 
 -- ---- what a front knows of its client's source
 
-shown_upload : (s : Stage) (framing : Framing) (c shown body : List ℕ) → s ≡ S.Uploading framing → IsShown s
-    c shown body
+shown_upload : (s : Stage) (framing : Framing) (c shown body : List ℕ) → s ≡ S.Uploading framing
+    → IsShown s c shown body
     → (h : grammar.RequestHead) × HasUpload c h framing body
 shown_upload S.Heading framing c shown body is shows = absurd (let wrong : S.Heading ≡ S.Uploading framing =
     is in cc)
@@ -60,8 +60,8 @@ shown_plain (S.Uploading framing) c shown body is shows =
 
 -- what was handed over and may still be follows the head in the client's source
 pub source_upload : {C : Type 0} (look : C → Look) (f : FrontSeen C) (framing : Framing)
-    → f.text.stage ≡ S.Uploading framing → ShowsClient look f → all_of (look f.client) ≡ (look
-    f.client).source
+    → f.text.stage ≡ S.Uploading framing → ShowsClient look f
+    → all_of (look f.client) ≡ (look f.client).source
     → (h : grammar.RequestHead) × HasUpload (source_of look f) h framing
     (handed_of look f ++ body_left f.text (look f.client))
 source_upload look f framing uploading shows known =
@@ -73,8 +73,8 @@ source_upload look f framing uploading shows known =
     )
 
 -- or it has none
-pub source_plain : {C : Type 0} (look : C → Look) (f : FrontSeen C) → f.text.stage ≡ S.Passing → ShowsClient
-    look f
+pub source_plain : {C : Type 0} (look : C → Look) (f : FrontSeen C) → f.text.stage ≡ S.Passing
+    → ShowsClient look f
     → all_of (look f.client) ≡ (look f.client).source → LacksUpload (source_of look f)
 source_plain look f passing shows known =
     subst (λ (list : List ℕ). LacksUpload list) known
@@ -85,8 +85,8 @@ module _ {C O P : Type 0} (client : link.Ghosts C) (origin : link.Ghosts O) (inn
     (stage : transform.Ghosts P TransformLine) where
   -- the client's source, by what was fed of the body, what waits, and what is left
   fed_upload : (f : FrontSeen C) (c : Carrier O P) (len line : ℕ) (p : Passage P)
-      → (b : SendsBody client origin inner stage len line p f c) → client.tells ≡ true → ShowsClient
-      client.look f
+      → (b : SendsBody client origin inner stage len line p f c) → client.tells ≡ true
+      → ShowsClient client.look f
       → all_of (client.look f.client) ≡ source_of client.look f
       → (h : grammar.RequestHead) × HasUpload (source_of client.look f) h b.framing
       (b.fed ++ (c.inbox ++ body_left f.text (client.look f.client)))
@@ -111,16 +111,16 @@ module _ {C O P : Type 0} (client : link.Ghosts C) (origin : link.Ghosts O) (inn
       let whole = finished_whole stage (request_lines c) b.framing b.fed b.read (cut_body b.writes.pieces) p
       (b.writes.finished ended) way in
       elim whole.over [
-        | inl given ↦ ended_accepts (request_lines c) (source_of client.look f) found.0 b.framing b.fed
-            b.read more
+        | inl given ↦ ended_accepts (request_lines c)
+            (source_of client.look f) found.0 b.framing b.fed b.read more
             way.place found.1 way.is_fed (way.over given) refused
-        | inr early ↦ early_accepts (request_lines c) (source_of client.look f) found.0 b.framing b.fed
-            b.read more
+        | inr early ↦ early_accepts (request_lines c)
+            (source_of client.look f) found.0 b.framing b.fed b.read more
             way.place found.1 way.is_fed early refused
       ]
 
-  accepts_by : (f : FrontSeen C) (c : Carrier O P) (head : HeadState) (passage : Option (Passage P)) →
-      IsBegun head
+  accepts_by : (f : FrontSeen C) (c : Carrier O P) (head : HeadState) (passage : Option (Passage P))
+      → IsBegun head
       → IsEnded passage → client.tells ≡ true → ShowsClient client.look f
       → all_of (client.look f.client) ≡ source_of client.look f
       → WayBy client origin inner stage head passage f c
@@ -145,8 +145,8 @@ module _ {C O P : Type 0} (client : link.Ghosts C) (origin : link.Ghosts O) (inn
         accepts_by f c c.head c.passage begun ended told (shows told) (known told) pair.way refused
     accepts begun asked ended told (inr refused) = pair.own_done asked told refused
 
-    over_less : (head : HeadState) (n : ℕ) → work_left stage.rest n head over_on ≤ work_left stage.rest n
-        head c
+    over_less : (head : HeadState) (n : ℕ)
+        → work_left stage.rest n head over_on ≤ work_left stage.rest n head c
     over_less H.Held n = omega arith
     over_less (H.Sent len line) n = omega arith
 
@@ -180,13 +180,13 @@ module _ {C O P : Type 0} (client : link.Ghosts C) (origin : link.Ghosts O) (inn
         })
         (λ e. absurd (let wrong : U.Done ≡ U.NoMemory = e in cc)) (λ e. refl)
         (λ e. absurd (let wrong : U.Done ≡ U.More = e in cc))
-        (calm_work client.tells origin.tells (inner.upload_left f.client c.origin) (work_left stage.rest most
-        c.head c)
+        (calm_work client.tells origin.tells (inner.upload_left f.client c.origin)
+        (work_left stage.rest most c.head c)
         (work_left stage.rest most c.head over_on) (over_less c.head most))
       where
         way_over : (head : HeadState) (passage : Option (Passage P)) → IsBegun head
-            → WayBy client origin inner stage head passage f c → WayBy client origin inner stage head passage
-            f over_on
+            → WayBy client origin inner stage head passage f c
+            → WayBy client origin inner stage head passage f over_on
         way_over H.Held passage (len, line, is) way = absurd (let wrong : H.Held ≡ H.Sent len line = is in cc)
         way_over (H.Sent len line) None is way = record {
           line_is = way.line_is;
@@ -222,8 +222,8 @@ module _ {C O P : Type 0} (client : link.Ghosts C) (origin : link.Ghosts O) (inn
     pub refused_by : (p : Passage P) → c.passage ≡ Some p → Stalls p
         → ((t : P) (w : List ℕ) → stage.soon t [] ≡ Some w → w ≡ []) → (state : BodyState)
         → state_of p.body.phase ≡ state → state ≢ B.Ended
-        → (state ≡ B.Unfinished → client.tells ≡ true → c.inbox ++ body_left f.text (client.look f.client) ≡
-        [])
+        → (state ≡ B.Unfinished → client.tells ≡ true
+        → c.inbox ++ body_left f.text (client.look f.client) ≡ [])
         → client.tells ≡ true → RefusesUpload (request_lines c) (source_of client.look f)
     refused_by p is stalls silent state at short none told =
         let (len, line, head_is, b) = way_body client origin inner stage client_still origin_still f c p is
@@ -234,8 +234,8 @@ module _ {C O P : Type 0} (client : link.Ghosts C) (origin : link.Ghosts O) (inn
         short_refused (request_lines c) (source_of client.look f) found.0 b.framing b.fed b.read
         (c.inbox ++ body_left f.text (client.look f.client)) way.place state found.1 way.is_fed
         (ap (λ x. state_of x.phase) (sym stands) ∙ at) short (λ e. none e told)
-        (rests_late stage (request_lines c) b.framing silent b.fed b.read (cut_body b.writes.pieces) p
-        stalls.rests
+        (rests_late stage (request_lines c) b.framing silent b.fed b.read
+        (cut_body b.writes.pieces) p stalls.rests
         stalls.more (open_stalls p stalls) way)
 
     pub refuse_step : (p : Passage P) → c.passage ≡ Some p → Stalls p → state_of p.body.phase ≡ B.Bad

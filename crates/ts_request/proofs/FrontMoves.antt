@@ -13,7 +13,7 @@ use Rattle.ts_request.specs.Front.{Holds, HoldsLink, HoldsText, Moves, shown_thr
 use Rattle.ts_request.specs.Laws.{keeps_body, keeps_body_on}
 use Rattle.ts_link.specs.declared.link.Got.TheVariants as G
 use Rattle.ts_request.specs.Held.{FillsFrom}
-use Rattle.ts_request.specs.Text.{Decides, Text, is_heading, with_more}
+use Rattle.ts_request.specs.Text.{Decides, Text, before_last, is_heading, with_more}
 use Rattle.ts_request.specs.Upload.{HasUpload, LacksUpload, NeverHasUpload, without_body}
 use Rattle.ts_request.specs.declared.stage.Stage.{Stage}
 use Rattle.ts_request.specs.declared.stage.Stage.TheVariants as S
@@ -199,8 +199,8 @@ module _ (tells : Bool) (front : List ℕ) (used : ℕ) (l m : Look) (more : Lis
         before = (front ++ more) ++ m.left;
         replaced = came_short front l m more (given tell) (told tell);
         moved = refl;
-        given = rest_by_length m.given [] (front ++ more) (came_given front l m more (given tell)
-            (told tell));
+        given = rest_by_length m.given [] (front ++ more)
+            (came_given front l m more (given tell) (told tell));
         taken = (told tell).taken;
       };
       body = record {
@@ -376,14 +376,25 @@ pub heading_holds : (tells : Bool) (t : Text) (l : Look) → t.stage ≡ S.Headi
     → HoldsText S.Heading t
 heading_holds tells t l stage holds = subst (λ s. HoldsText s t) stage holds.text
 
+-- bytes came: what was held before them is what was held
+pub came_last : {tells : Bool} {t t1 : Text} {l m : Look} {n : ℕ} → FillsFrom tells t t1 l m (G.Bytes n)
+    → (n ≤ length t1.front) × (before_last n t1.front ≡ t.front)
+came_last {t = t} {t1 = t1} {n = n} f =
+    let more = take n f.into in
+    let long : length more ≡ n = omega (arith, f.reads.fills.1, length-take n f.into) in
+    let front : t1.front ≡ t.front ++ more = ap (λ (u : Text). u.front) f.text in (
+      omega (arith, long, ap length front, length-append t.front more),
+      ap (λ k. take (length t1.front - k) t1.front) (sym long) ∙ rest_by_length t1.front t.front more front,
+    )
+
 -- bytes came, and it is known by them what is shown, or not yet
 pub filled_known : (tells : Bool) (t t1 t' : Text) (l m : Look) (n : ℕ) → t.stage ≡ S.Heading
     → Holds tells t l
     → FillsFrom tells t t1 l m (G.Bytes n) → Decides t1 t' t'.stage → MovesTo tells t t' l m false false
 filled_known tells t t1 t' l m n stage holds f decides =
     let r = f.reads in
-    seeks_more tells t l m (take n f.into) false false stage holds r.calls r.once.writes r.sure r.told t1
-    t' f.text
+    seeks_more tells t l m
+    (take n f.into) false false stage holds r.calls r.once.writes r.sure r.told t1 t' f.text
     (omega (arith, r.fills.0, r.fills.1, length-take n f.into)) decides
 
 -- the client has ended

@@ -160,8 +160,8 @@ shows_client_by : (tells : Bool) (front : List ℕ) (shown used : ℕ) (behind :
     (answer : Got)
     (into : List ℕ) → drop shown front ≡ [] → Holds tells (text_of S.Passing front shown used behind) l
     → Reads tells l m answer into
-    → Shows tells (text_of S.Passing front shown used behind) (text_of S.Passing front shown used behind) l m
-    answer into
+    → Shows tells (text_of S.Passing front shown used behind)
+    (text_of S.Passing front shown used behind) l m answer into
     × Holds tells (text_of S.Passing front shown used behind) m
 shows_client_by tells front shown used behind l m answer into none holds reads = (
   record {
@@ -232,8 +232,8 @@ pub shows_after : (tells : Bool) (t u v : Text) (l m n : Look) (answer : Got) (i
     → Moves tells t u l m false false [] → Shows tells u v m n answer into → Shows tells t v l n answer into
 shows_after tells t u v l m n answer into moves shows = record {
   fills = shows.fills;
-  moves = moves_after tells t u v l m n (got_failed answer) (got_again answer) (take (count_got answer) into)
-      moves shows.moves;
+  moves = moves_after tells t u v l m n (got_failed answer) (got_again answer)
+      (take (count_got answer) into) moves shows.moves;
   ends = shows.ends;
 }
 

@@ -44,8 +44,8 @@ token_lacks_colon bytes pass = lacks_failing is_token_byte colon bytes colon_end
 -- ---- the lines that stay, line by line
 
 -- bytes without a line feed are part of one line
-kept_run : (line xs rest : List ℕ) → Lacks line_feed xs → kept_from line (xs ++ rest) ≡ kept_from
-    (line ++ xs) rest
+kept_run : (line xs rest : List ℕ) → Lacks line_feed xs
+    → kept_from line (xs ++ rest) ≡ kept_from (line ++ xs) rest
 kept_run line [] rest none = ap (λ l. kept_from l rest) (sym (append-nil line))
 kept_run line (x ∷ xs) rest none =
     let other : is_line_feed x ≡ false = ne_eqb x line_feed (All-head (λ c. c ≢ line_feed) x xs none) in
@@ -230,8 +230,8 @@ strips_head h good =
     let last = print_end h.last in
     ap kept_lines (head_parts h)
     ∙ kept_blank h.blank (start_line h ++ (print_end h.line_end ++ (fields ++ last)))
-    ∙ ap (λ l. print_blank h.blank ++ l) (kept_first (start_line h) h.line_end (fields ++ last)
-    (start_lacks h good)
+    ∙ ap (λ l. print_blank h.blank ++ l)
+    (kept_first (start_line h) h.line_end (fields ++ last) (start_lacks h good)
     ∙ ap (λ l. l ++ kept_lines (fields ++ last)) (start_stays h good)
     ∙ append_assoc (start_line h) (print_end h.line_end) (kept_lines (fields ++ last))
     ∙ ap (λ l. start_line h ++ (print_end h.line_end ++ l)) (fields_kept h.fields last good.fields
@@ -264,8 +264,8 @@ longer : (x y z f g l : List ℕ) → length f ≤ length g
     → length (x ++ (y ++ (z ++ (f ++ l)))) ≤ length (x ++ (y ++ (z ++ (g ++ l))))
 longer x y z f g l short = simp length-append (omega arith)
 
-pub stripped_short : (h : grammar.RequestHead) → length (print_request (without_body h)) ≤ length
-    (print_request h)
+pub stripped_short : (h : grammar.RequestHead)
+    → length (print_request (without_body h)) ≤ length (print_request h)
 stripped_short h =
     subst (λ w. length w ≤ length (print_request h)) (sym (head_parts (without_body h)))
     (subst (λ w. length (print_blank h.blank ++ (start_line h

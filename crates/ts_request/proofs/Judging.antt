@@ -58,8 +58,8 @@ other_accepts lines c lacks r = lacks r.upload.head r.framing r.upload.rest r.up
 
 -- what is said of the upload of some bytes is said of the body that follows this head
 upload_same : (c : List ℕ) (h : grammar.RequestHead) (framing framing' : Framing) (rest body : List ℕ)
-    (state : BodyState) → HasUpload c h framing rest → IsUpload c framing' body state → BodyOf framing rest
-    body state
+    (state : BodyState) → HasUpload c h framing rest → IsUpload c framing' body state
+    → BodyOf framing rest body state
 upload_same c h framing framing' rest body state has u =
     let one = one_request c u.head h u.rest rest u.has.begins has.begins in
     let both : ◌≡◌ {A = Option Framing} (Some framing') (Some framing) =
@@ -69,8 +69,8 @@ upload_same c h framing framing' rest body state has u =
 
 -- its body has ended
 pub ended_accepts : (lines : List TransformLine) (c : List ℕ) (h : grammar.RequestHead) (framing : Framing)
-    (fed read more : List ℕ) (place : Place) → HasUpload c h framing (fed ++ more) → IsFed framing fed read
-    place
+    (fed read more : List ℕ) (place : Place) → HasUpload c h framing (fed ++ more)
+    → IsFed framing fed read place
     → state_of place.phase ≡ B.Ended → RefusesUpload lines c → ⊥
 ended_accepts lines c h framing fed read more place has is at r =
     let all = upload_same c h framing r.framing (fed ++ more) r.body r.state has r.upload in
@@ -80,8 +80,8 @@ ended_accepts lines c h framing fed read more place has is at r =
 
 -- a line finished early on what was read of it
 pub early_accepts : (lines : List TransformLine) (c : List ℕ) (h : grammar.RequestHead) (framing : Framing)
-    (fed read more : List ℕ) (place : Place) → HasUpload c h framing (fed ++ more) → IsFed framing fed read
-    place
+    (fed read more : List ℕ) (place : Place) → HasUpload c h framing (fed ++ more)
+    → IsFed framing fed read place
     → ((z : List ℕ) → is_early lines (read ++ z) ≡ true) → RefusesUpload lines c → ⊥
 early_accepts lines c h framing fed read more place has is early r =
     let all = upload_same c h framing r.framing (fed ++ more) r.body r.state has r.upload in

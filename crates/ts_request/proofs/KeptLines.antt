@@ -31,13 +31,13 @@ kept_one line (b ∷ []) some =
     first n = omega arith
 kept_one line (b ∷ c ∷ bytes) some =
     split (is_line_feed b)
-    (λ t. cond t (kept_line (line ++ b ∷ []) ++ kept_from [] (c ∷ bytes)) (kept_from (line ++ b ∷ [])
-    (c ∷ bytes))
+    (λ t. cond t (kept_line (line ++ b ∷ []) ++ kept_from [] (c ∷ bytes))
+    (kept_from (line ++ b ∷ []) (c ∷ bytes))
     ≡ at (min (suc (length (c ∷ bytes))) (cond (not t) (1 + position_or_len is_line_feed (c ∷ bytes)) 0 + 1)))
     (λ ends. ap at ends_here)
     (λ not_ends. kept_one (line ++ b ∷ []) (c ∷ bytes) (omega arith)
-    ∙ ap (λ l. kept_line l ++ kept_lines (drop n (c ∷ bytes))) (append_assoc line (b ∷ []) (take n
-    (c ∷ bytes)))
+    ∙ ap (λ l. kept_line l ++ kept_lines (drop n (c ∷ bytes)))
+    (append_assoc line (b ∷ []) (take n (c ∷ bytes)))
     ∙ ap at goes_on)
   where
     n : ℕ
@@ -135,8 +135,8 @@ module _ (used : ℕ) (first room : List ℕ) (kept at end : ℕ) (fits : used �
       → kept' ≤ kept + (end - at) → length new ≡ length room → LinesKept used first new kept' end
   line_more new kept' front behind short len = record {
     lines = ap (λ l. l ++ kept_lines (drop end (take used first))) front
-        ∙ append_assoc (take kept room) (kept_line (slice_range room at end)) (kept_lines (drop end
-        (take used first)))
+        ∙ append_assoc (take kept room) (kept_line (slice_range room at end))
+        (kept_lines (drop end (take used first)))
         ∙ ap (λ l. take kept room ++ l) (sym parts) ∙ so_far.lines;
     behind = behind ∙ rest_on room first at end (omega (arith, some)) so_far.behind;
     kept_within = omega (arith, so_far.kept_within, some, short);

@@ -15,6 +15,7 @@ pub mod HeadLines
 pub mod HeldBytes
 pub mod Judging
 pub mod KeptLines
+pub mod LineEnds
 pub mod LinkCalls
 pub mod Linking
 pub mod OneUpload

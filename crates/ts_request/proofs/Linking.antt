@@ -78,8 +78,8 @@ module _ {O P : Type 0} (t : Bool) (l m : Look) (c : Carrier O P) (answer : Got)
     ends = r.ends;
   }
 
-pub reads_goes : {O P : Type 0} (origin : link.Ghosts O) (c : Carrier O P) (o : O) (answer : Got) (into :
-    List ℕ)
+pub reads_goes : {O P : Type 0} (origin : link.Ghosts O) (c : Carrier O P) (o : O) (answer : Got)
+    (into : List ℕ)
     → Reads origin.tells (origin.look c.origin) (origin.look o) answer into → origin.goes c.origin o
     → CarrierGoes origin c (record c { origin = o })
 reads_goes origin c o answer into r goes = record {
@@ -120,22 +120,22 @@ lacks_memory t l piece = record {
 
 -- that is held
 module _ {O P : Type 0} (t : Bool) (l : Look) (c : Carrier O P) (piece out : List ℕ) (writes n : ℕ)
-    (held : c.head ≡ H.Held) (some : 0 < length piece) (count : n ≡ length piece) (grows : out ≡ c.out ++
-    piece)
+    (held : c.head ≡ H.Held) (some : 0 < length piece) (count : n ≡ length piece)
+    (grows : out ≡ c.out ++ piece)
     (counted : writes ≡ one_more c.writes) where
   abbrev pub held_on : Carrier O P
   held_on = record c { out = out; writes = writes }
 
   held_text : without_line c.head (l.taken ++ out) ≡ without_line c.head (l.taken ++ c.out) ++ take n piece
   held_text =
-      subst (λ (h : HeadState). without_line h (l.taken ++ out) ≡ without_line h (l.taken ++ c.out) ++ take n
-      piece)
+      subst (λ (h : HeadState). without_line h (l.taken ++ out)
+      ≡ without_line h (l.taken ++ c.out) ++ take n piece)
       (sym held)
       (ap (λ xs. l.taken ++ xs) grows ∙ sym (append_assoc l.taken c.out piece)
       ∙ ap (λ xs. (l.taken ++ c.out) ++ xs) (sym (take_all n piece (omega (arith, count)))))
 
-  held_behind : behind_head c.head l.carried (l.taken ++ out) ≡ behind_head c.head l.carried (l.taken ++
-      c.out)
+  held_behind : behind_head c.head l.carried (l.taken ++ out)
+      ≡ behind_head c.head l.carried (l.taken ++ c.out)
   held_behind =
       subst (λ (h : HeadState). behind_head h l.carried (l.taken ++ out) ≡ behind_head h l.carried (l.taken
       ++ c.out))
@@ -186,11 +186,11 @@ writes_by t l c piece out writes put.Again held some holds = absurd holds
 writes_by t l c piece out writes put.Failed held some holds = absurd holds
 
 fits_by : (before after : List ℕ) (writes writes' : ℕ) (answer : Put) (piece : List ℕ)
-    → HoldsPiece before after writes writes' answer piece → length before ≤ MOST_HELD → length after ≤
-    MOST_HELD
+    → HoldsPiece before after writes writes' answer piece → length before ≤ MOST_HELD
+    → length after ≤ MOST_HELD
 fits_by before after writes writes' (put.Took n) piece holds few = holds.2
-fits_by before after writes writes' put.NoMemory piece holds few = subst (λ xs. length xs ≤ MOST_HELD) (sym
-    holds.0) few
+fits_by before after writes writes' put.NoMemory piece holds few = subst (λ xs. length xs ≤ MOST_HELD)
+    (sym holds.0) few
 fits_by before after writes writes' put.Again piece holds few = absurd holds
 fits_by before after writes writes' put.Failed piece holds few = absurd holds
 

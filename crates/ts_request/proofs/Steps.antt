@@ -32,8 +32,8 @@ may_same [] left = omega arith
 may_same (b ∷ bs) left = refl
 
 -- a number that counts in both
-pub both_less : (again : Bool) (m n n' : Option ℕ) → AgainsFall again n n' → AgainsFall again (both m n)
-    (both m n')
+pub both_less : (again : Bool) (m n n' : Option ℕ) → AgainsFall again n n'
+    → AgainsFall again (both m n) (both m n')
 both_less true None n n' fell = tt
 both_less false None n n' fell = tt
 both_less true (Some m) None n' fell = tt
@@ -161,8 +161,8 @@ plan_inside None P sure = sure
 plan_inside (Some plan) P sure = sure_inside plan.leave plan P sure
 
 -- its origin never leaves
-leaves_none : (leave : Option ℕ) (plan : Plan) (P : Plan → Type 0) → IsSomeAnd (plan_if leave plan) P → leave
-    ≡ None
+leaves_none : (leave : Option ℕ) (plan : Plan) (P : Plan → Type 0) → IsSomeAnd (plan_if leave plan) P
+    → leave ≡ None
 leaves_none None plan P sure = refl
 leaves_none (Some m) plan P sure = absurd sure
 
@@ -180,8 +180,8 @@ module _ {C O P : Type 0} (client : link.Ghosts C) (origin : link.Ghosts O) (inn
     (stage : transform.Ghosts P TransformLine) (client_still : (c : C) → client.still c c) where
   -- ---- a step that calls no link
 
-  module _ (origin_still : (o : O) → origin.still o o) (f : FrontSeen C) (c : Carrier O P) (out inbox : List
-      ℕ)
+  module _ (origin_still : (o : O) → origin.still o o) (f : FrontSeen C) (c : Carrier O P)
+      (out inbox : List ℕ)
       (head : HeadState) (asked over : Bool) (passage : Option (Passage P)) where
     abbrev pub moved_on : Carrier O P
     moved_on = record c {
@@ -202,8 +202,8 @@ module _ {C O P : Type 0} (client : link.Ghosts C) (origin : link.Ghosts O) (inn
           ≡ behind_head c.head (own_of origin.look c) (all_sent origin.look c) ++ more
 
     told_more : origin.tells ≡ true → TellsMore
-        → UploadsOrigin (carrier_look origin.tells origin.look c) (carrier_look origin.tells origin.look
-        moved_on)
+        → UploadsOrigin (carrier_look origin.tells origin.look c)
+        (carrier_look origin.tells origin.look moved_on)
     told_more told tells = record {
       given = refl;
       left = may_same (origin.look c.origin).given (origin.look c.origin).left;
@@ -216,16 +216,16 @@ module _ {C O P : Type 0} (client : link.Ghosts C) (origin : link.Ghosts O) (inn
 
     pub quiet_step : (answer : Uploaded) → is_quiet answer ≡ true
         → CarrierPair client origin inner stage f moved_on
-        → (client.tells ≡ true → UploadRefuses answer (CarrierRefuses inner.refuses c (source_of client.look
-        f)))
+        → (client.tells ≡ true
+        → UploadRefuses answer (CarrierRefuses inner.refuses c (source_of client.look f)))
         → (origin.tells ≡ true → TellsMore)
         → (answer ≡ U.NoMemory
         → carrier_look origin.tells origin.look moved_on ≡ carrier_look origin.tells origin.look c)
         → (answer ≡ U.Done → over ≡ true)
         → (answer ≡ U.More → Fewer (carrier_left client origin inner stage f c)
         (carrier_left client origin inner stage f moved_on))
-        → NoMore (carrier_left client origin inner stage f c) (carrier_left client origin inner stage f
-        moved_on)
+        → NoMore (carrier_left client origin inner stage f c)
+        (carrier_left client origin inner stage f moved_on)
         → UploadsStep client origin inner stage answer f f c moved_on
     quiet_step answer quiet pair refusal tells lacks done more calm =
         let fl = front_look client.look f in
@@ -264,8 +264,8 @@ module _ {C O P : Type 0} (client : link.Ghosts C) (origin : link.Ghosts O) (inn
             };
           };
           falls = falls_by answer (carrier_left client origin inner stage f c)
-              (carrier_left client origin inner stage f moved_on) (both fl.agains cl.agains) (both fl.agains
-              dl.agains)
+              (carrier_left client origin inner stage f moved_on) (both fl.agains cl.agains)
+              (both fl.agains dl.agains)
               more calm
               (subst (λ b. AgainsFall b (both fl.agains cl.agains) (both fl.agains dl.agains))
               (sym (quiet_waits answer quiet)) (no_more_self (both fl.agains cl.agains)));

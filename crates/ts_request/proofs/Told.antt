@@ -37,8 +37,8 @@ unlines_framed len line said is head behind long =
     let front = length head - length crlf_bytes in
     let at : line_place len ≡ front = ap (λ n. n - length crlf_bytes) (sym long) in
     let short : length (take front head) ≡ front = omega (arith, length-take front head) in
-    ap (λ n. take n (with_framing head said ++ behind) ++ drop (n + line) (with_framing head said ++ behind))
-    at
+    ap (λ n. take n (with_framing head said ++ behind)
+    ++ drop (n + line) (with_framing head said ++ behind)) at
     ∙ ap (λ xs. take front xs ++ drop (front + line) xs)
     (append_assoc (take front head ++ framing_line said) (drop front head) behind)
     ∙ middle_out (take front head) (framing_line said) (drop front head ++ behind) front line short (sym is)

@@ -10,16 +10,16 @@ use Rattle.ts_transform.specs.declared.pump.Pumped.{Pumped}
 use Rattle.ts_transform.specs.declared.pump.Pumped.TheVariants.{Moved, Ended, Blocked, Idle}
 use Rattle.ts_transform.specs.declared.pump.Stage.{Stage}
 
-pub must_within : {P : Type 0} (up : Bool) (from : List ℕ) (ss : List (Stage P)) (at : ℕ) → MustPump up from
-    ss at
+pub must_within : {P : Type 0} (up : Bool) (from : List ℕ) (ss : List (Stage P)) (at : ℕ)
+    → MustPump up from ss at
     → at < length ss
 must_within up from [] at must = absurd must
 must_within up from (s ∷ ss) zero must = omega arith
 must_within up from (s ∷ ss) (suc at) must = omega (arith, must_within (has_ended s) s.after ss at must)
 
 -- a stage that has work and room after it ends, or moves some bytes
-moves_if : (full done : Bool) (from after : List ℕ) (r : Pumped) → full ≡ false → AnswersWork full done from
-    after r
+moves_if : (full done : Bool) (from after : List ℕ) (r : Pumped) → full ≡ false
+    → AnswersWork full done from after r
     → 1 ≤ done_by r
 moves_if true done from after r room answers = absurd (let wrong : true ≡ false = room in cc)
 moves_if false true from after r room answers = subst (λ x. 1 ≤ done_by x) (sym answers) (omega arith)
@@ -40,6 +40,6 @@ pub must_moves : {P : Type 0} (up : Bool) (from : List ℕ) (ss : List (Stage P)
     → MustPump up from ss at → AnswersAt up from ss at r → 1 ≤ done_by r
 must_moves up from [] at r must answers = absurd must
 must_moves up from (s ∷ ss) zero r must answers =
-    work_if (has_work (has_ended s) (needs_no_more up s.part) from) (is_done s.part) from s.after r must
-    answers
+    work_if (has_work (has_ended s) (needs_no_more up s.part) from)
+    (is_done s.part) from s.after r must answers
 must_moves up from (s ∷ ss) (suc at) r must answers = must_moves (has_ended s) s.after ss at r must answers

@@ -98,8 +98,8 @@ still_if V.NoMemory t k l before after is some pushes = (pushes.stands, pushes.w
 -- what is left falls by what went
 left_falls : (ct ot : Bool) (inside inside' : Option ℕ) (n out out' rest : ℕ) → Rose8 inside inside' n
     → out' + n ≡ out
-    → NoMore (left_if ct ot inside (write_cost * out + rest)) (left_if ct ot inside' (write_cost * out' +
-    rest))
+    → NoMore (left_if ct ot inside (write_cost * out + rest))
+    (left_if ct ot inside' (write_cost * out' + rest))
 left_falls false ot inside inside' n out out' rest rose went = tt
 left_falls true false inside inside' n out out' rest rose went = tt
 left_falls true true None inside' n out out' rest rose went = tt
@@ -108,8 +108,8 @@ left_falls true true (Some k) (Some m) n out out' rest rose went = omega (arith,
 
 left_less : (ct ot : Bool) (inside inside' : Option ℕ) (n out out' rest : ℕ) → Rose8 inside inside' n
     → out' + n ≡ out → 1 ≤ n
-    → Fewer (left_if ct ot inside (write_cost * out + rest)) (left_if ct ot inside' (write_cost * out' +
-    rest))
+    → Fewer (left_if ct ot inside (write_cost * out + rest))
+    (left_if ct ot inside' (write_cost * out' + rest))
 left_less false ot inside inside' n out out' rest rose went some = tt
 left_less true false inside inside' n out out' rest rose went some = tt
 left_less true true None inside' n out out' rest rose went some = tt
@@ -153,8 +153,8 @@ module _ {C O P : Type 0} (client : link.Ghosts C) (origin : link.Ghosts O) (inn
 
       way_on : (head : HeadState) (passage : Option (Passage P)) (len line : ℕ) → head ≡ H.Sent len line
           → c.passage ≡ passage
-          → WayBy client origin inner stage head passage f c → WayBy client origin inner stage head passage f
-          written_on
+          → WayBy client origin inner stage head passage f c
+          → WayBy client origin inner stage head passage f written_on
       way_on H.Held passage len line begun is way = absurd (let wrong : H.Held ≡ H.Sent len line = begun in
           cc)
       way_on (H.Sent a b) None len line begun is way = record {
@@ -197,8 +197,8 @@ module _ {C O P : Type 0} (client : link.Ghosts C) (origin : link.Ghosts O) (inn
         }
 
         taken_same : origin.tells ≡ true
-            → (carrier_look origin.tells origin.look written_on).taken ≡ (carrier_look origin.tells
-            origin.look c).taken
+            → (carrier_look origin.tells origin.look written_on).taken
+            ≡ (carrier_look origin.tells origin.look c).taken
         taken_same told =
             ap (λ xs. if origin.tells then without_line c.head xs else []) (same_sent told)
 
@@ -206,8 +206,8 @@ module _ {C O P : Type 0} (client : link.Ghosts C) (origin : link.Ghosts O) (inn
         behind_same : (head : HeadState) (a b xs ys : List ℕ) → a ≡ b → xs ≡ ys
             → behind_head head a xs ≡ behind_head head b ys
         behind_same H.Held a b xs ys same also = same
-        behind_same (H.Sent len line) a b xs ys same also = ap (λ zs. drop len (without_line (H.Sent len
-            line) zs)) also
+        behind_same (H.Sent len line) a b xs ys same also = ap
+            (λ zs. drop len (without_line (H.Sent len line) zs)) also
 
         carried_same : origin.tells ≡ true
             → (carrier_look origin.tells origin.look written_on).carried
@@ -226,21 +226,21 @@ module _ {C O P : Type 0} (client : link.Ghosts C) (origin : link.Ghosts O) (inn
 
         rose_on : origin.tells ≡ true → Rose8 (inner.upload_left f.client c.origin) (inner.upload_left
             f.client o) (count_pushed p)
-        rose_on told = subst (λ n. Rose8 (inner.upload_left f.client c.origin) (inner.upload_left f.client o)
-            n)
+        rose_on told = subst
+            (λ n. Rose8 (inner.upload_left f.client c.origin) (inner.upload_left f.client o) n)
             (since_is told) rose
 
         -- the rest of what is left
         abbrev pub rest_left : ℕ
         rest_left = (to_come c.asked + to_come c.over)
-            + way_left (request_lines c) stage.rest (body_most f.text (client.look f.client)) (length
-            c.inbox) c.passage
+            + way_left (request_lines c) stage.rest (body_most f.text (client.look f.client))
+            (length c.inbox) c.passage
 
-        left_is : (head : HeadState) (d : Carrier O P) (n : ℕ) → (len : ℕ) × (line : ℕ) × (head ≡ H.Sent len
-            line)
+        left_is : (head : HeadState) (d : Carrier O P) (n : ℕ)
+            → (len : ℕ) × (line : ℕ) × (head ≡ H.Sent len line)
             → work_left stage.rest n head d ≡ write_cost * length d.out
-            + ((to_come d.asked + to_come d.over) + way_left (request_lines d) stage.rest n (length d.inbox)
-            d.passage)
+            + ((to_come d.asked + to_come d.over)
+            + way_left (request_lines d) stage.rest n (length d.inbox) d.passage)
         left_is H.Held d n (len, line, is) = absurd (let wrong : H.Held ≡ H.Sent len line = is in cc)
         left_is (H.Sent a b) d n is = omega arith
 
@@ -251,10 +251,10 @@ module _ {C O P : Type 0} (client : link.Ghosts C) (origin : link.Ghosts O) (inn
         by_out : (Q : Option ℕ → Option ℕ → Type 0)
             → Q (left_if client.tells origin.tells (inner.upload_left f.client c.origin)
             (write_cost * length c.out + rest_left))
-            (left_if client.tells origin.tells (inner.upload_left f.client o) (write_cost * length out +
-            rest_left))
-            → Q (carrier_left client origin inner stage f c) (carrier_left client origin inner stage f
-            written_on)
+            (left_if client.tells origin.tells (inner.upload_left f.client o)
+            (write_cost * length out + rest_left))
+            → Q (carrier_left client origin inner stage f c)
+            (carrier_left client origin inner stage f written_on)
         by_out Q at =
             subst (λ (n : ℕ). Q (left_if client.tells origin.tells (inner.upload_left f.client c.origin) n)
             (carrier_left client origin inner stage f written_on)) (sym (left_is c.head c most begun))
@@ -263,34 +263,34 @@ module _ {C O P : Type 0} (client : link.Ghosts C) (origin : link.Ghosts O) (inn
             (left_if client.tells origin.tells (inner.upload_left f.client o) n))
             (sym (left_is c.head written_on most begun)) at)
 
-        calm_left : NoMore (carrier_left client origin inner stage f c) (carrier_left client origin inner
-            stage f written_on)
+        calm_left : NoMore (carrier_left client origin inner stage f c)
+            (carrier_left client origin inner stage f written_on)
         calm_left =
             by_out NoMore
-            (rose_if client.tells origin.tells (inner.upload_left f.client c.origin) (inner.upload_left
-            f.client o)
-            (count_pushed p) NoMore (write_cost * length c.out + rest_left) (write_cost * length out +
-            rest_left)
+            (rose_if client.tells origin.tells (inner.upload_left f.client c.origin)
+            (inner.upload_left f.client o)
+            (count_pushed p) NoMore (write_cost * length c.out + rest_left)
+            (write_cost * length out + rest_left)
             (λ x. tt) rose_on (λ r. left_falls client.tells origin.tells (inner.upload_left f.client c.origin)
             (inner.upload_left f.client o) (count_pushed p) (length c.out) (length out) rest_left r
             (went_fewer p c.out out some pushes.went).0))
 
         less_left : answer_pushed p ≡ U.More
-            → Fewer (carrier_left client origin inner stage f c) (carrier_left client origin inner stage f
-            written_on)
+            → Fewer (carrier_left client origin inner stage f c)
+            (carrier_left client origin inner stage f written_on)
         less_left is =
             by_out Fewer
-            (rose_if client.tells origin.tells (inner.upload_left f.client c.origin) (inner.upload_left
-            f.client o)
-            (count_pushed p) Fewer (write_cost * length c.out + rest_left) (write_cost * length out +
-            rest_left)
+            (rose_if client.tells origin.tells (inner.upload_left f.client c.origin)
+            (inner.upload_left f.client o)
+            (count_pushed p) Fewer (write_cost * length c.out + rest_left)
+            (write_cost * length out + rest_left)
             (λ x. tt) rose_on (λ r. left_less client.tells origin.tells (inner.upload_left f.client c.origin)
             (inner.upload_left f.client o) (count_pushed p) (length c.out) (length out) rest_left r
             (went_fewer p c.out out some pushes.went).0 ((went_fewer p c.out out some pushes.went).1 is)))
 
         -- where nothing is seen of the origin to have changed, nothing is of the carrier
-        same_look : (l m : Look) → m ≡ l → out ≡ c.out → look_over origin.tells m written_on ≡ look_over
-            origin.tells l c
+        same_look : (l m : Look) → m ≡ l → out ≡ c.out
+            → look_over origin.tells m written_on ≡ look_over origin.tells l c
         same_look l m same also =
             (λ i. look_over origin.tells (same i) (record c { origin = o; out = also i }))
 
@@ -336,17 +336,17 @@ module _ {C O P : Type 0} (client : link.Ghosts C) (origin : link.Ghosts O) (inn
                   name = pushes.calls.name;
                   plan = ap stays_plan pushes.calls.plan;
                   before = pushes.calls.before;
-                  faults = counted_up (push_failed p) (origin.look c.origin).faults (origin.look o).faults
-                      pushes.calls.faults;
-                  waits = counted_up (push_again p) (origin.look c.origin).waits (origin.look o).waits
-                      pushes.calls.waits;
+                  faults = counted_up (push_failed p) (origin.look c.origin).faults
+                      (origin.look o).faults pushes.calls.faults;
+                  waits = counted_up (push_again p) (origin.look c.origin).waits
+                      (origin.look o).waits pushes.calls.waits;
                 };
               };
               falls = falls_by (answer_pushed p) (carrier_left client origin inner stage f c)
                   (carrier_left client origin inner stage f written_on) (both fl.agains cl.agains)
                   (both fl.agains dl.agains) less_left calm_left
-                  (subst (λ b. AgainsFall b (both fl.agains cl.agains) (both fl.agains dl.agains)) (sym
-                  (waits_if p))
+                  (subst (λ b. AgainsFall b (both fl.agains cl.agains) (both fl.agains dl.agains))
+                  (sym (waits_if p))
                   (both_less (push_again p) fl.agains cl.agains dl.agains pushes.calls.agains));
               sure = λ sure also.
                   let went = pushes.sure (plan_inside (origin.look c.origin).plan IsSurePlan also) in
@@ -356,16 +356,16 @@ module _ {C O P : Type 0} (client : link.Ghosts C) (origin : link.Ghosts O) (inn
                         (stays_inside (origin.look c.origin).plan (λ q. q.leave ≡ None) never) went.1 in (
                           failed_if p ∙ none,
                           refl,
-                          counted_same (push_failed p) (origin.look c.origin).faults (origin.look o).faults
-                              none pushes.calls.faults,
+                          counted_same (push_failed p) (origin.look c.origin).faults
+                              (origin.look o).faults none pushes.calls.faults,
                         );
                     waits = λ none also_none. waits_if p ∙ went.0;
                   };
             }
           where
             fails_not : (q : Pushed) → IsSomeAnd (origin.look c.origin).plan (λ x. x.leave ≡ None)
-                → (push_failed q ≡ true → Rattle.ts_link.specs.Link.HasLeft (origin.look c.origin)) →
-                push_failed q ≡ false
+                → (push_failed q ≡ true → Rattle.ts_link.specs.Link.HasLeft (origin.look c.origin))
+                → push_failed q ≡ false
             fails_not V.Failed never left =
                 absurd (not_left (origin.look c.origin).plan (length (origin.look c.origin).taken) never
                 (left refl))

@@ -43,8 +43,8 @@ module _ {C O P : Type 0} (client : link.Ghosts C) (origin : link.Ghosts O) (inn
     pub look : carrier_look origin.tells origin.look d ≡ carrier_look origin.tells origin.look c
     pub origin_is : d.origin ≡ c.origin
     pub setup : d.setup ≡ c.setup
-    pub left : NoMore (carrier_left client origin inner stage f c) (carrier_left client origin inner stage f
-        d)
+    pub left : NoMore (carrier_left client origin inner stage f c)
+        (carrier_left client origin inner stage f d)
 
 module _ {C O P : Type 0} (client : link.Ghosts C) (origin : link.Ghosts O) (inner : upstream.Ghosts O C)
     (stage : transform.Ghosts P TransformLine) where
@@ -54,9 +54,8 @@ module _ {C O P : Type 0} (client : link.Ghosts C) (origin : link.Ghosts O) (inn
       → f.text.stage ≡ S.Uploading framing → Begins client origin inner stage f c d
 
 -- One read of the body came behind what waits.
-pub record ReadsOn {C : Type 0} (client : link.Ghosts C) (f g : FrontSeen C) (before after : List ℕ) (answer
-    : Got) :
-    Type 0 where
+pub record ReadsOn {C : Type 0} (client : link.Ghosts C) (f g : FrontSeen C) (before after : List ℕ)
+    (answer : Got) : Type 0 where
   pub into : List ℕ
   pub grows : after ≡ before ++ take (count_got answer) into
   pub reads : ReadsBody client.tells f.text g.text (client.look f.client) (client.look g.client) answer into

@@ -1,6 +1,5 @@
 -- What holds of a request's body on its way to the origin: what was framed of it is a front of the request
--- lines'
--- work on what was read of it (RFC 9112, sections 6.3 and 7.1; Developer's Guide, "Transformations").
+-- lines' work on what was read of it (RFC 9112, sections 6.3 and 7.1; Developer's Guide, "Transformations").
 use Rattle.std.specs.Prelude.{◌≡◌, ◌≢◌, ℕ, ◌+◌, ◌*◌, ◌++◌, ◌⊎◌, List, [], Bool, true, false, All}
 use Rattle.ts_config.specs.declared.setup.TransformLine.{TransformLine}
 use Rattle.ts_config.specs.Bodies.{compose_lines, is_early}
@@ -21,8 +20,7 @@ use Rattle.ts_request.specs.declared.passage.Passage.{Passage}
 
 module _ {P : Type 0} (stage : transform.Ghosts P TransformLine) (lines : List TransformLine) where
   -- Of a body in this framing so much was fed, which is so much of the body, and so much of the lines' work
-  -- on
-  -- it was framed. Where memory lacked for a part of it, the reader of bodies stands behind that part.
+  -- on it was framed. Where memory lacked for a part of it, the reader of bodies stands behind that part.
   pub record Passes (framing : Framing) (fed read sent : List ℕ) (p : Passage P) : Type 0 where
     pub place : Place
     pub is_fed : IsFed framing fed read place
@@ -47,15 +45,13 @@ abbrev pub IsFrontOf : List ℕ → List ℕ → Type 0
 IsFrontOf front all = (more : List ℕ) × (all ≡ front ++ more)
 
 -- What was sent is a front of the lines' work on a body: on what was read of it, once it has ended, and else
--- on
--- whatever begins with that.
+-- on whatever begins with that.
 abbrev pub IsFrontOfWork : List TransformLine → Bool → List ℕ → List ℕ → Type 0
 IsFrontOfWork lines true read sent = IsFrontOf sent (compose_lines lines read)
 IsFrontOfWork lines false read sent = (more : List ℕ) → IsFrontOf sent (compose_lines lines (read ++ more))
 
 -- The lines' work was sent whole: on a body that has ended, or one of the lines finished early, whatever of
--- the
--- body still comes.
+-- the body still comes.
 pub record IsWholeWork (lines : List TransformLine) (ended : Bool) (read sent : List ℕ) : Type 0 where
   pub whole : sent ≡ compose_lines lines read
   pub over : (ended ≡ true) ⊎ ((more : List ℕ) → is_early lines (read ++ more) ≡ true)

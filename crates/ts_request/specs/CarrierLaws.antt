@@ -34,8 +34,8 @@ as_origin paired refuses left once =
     record { paired = paired; refuses = refuses; upload_left = left; one_upload = once }
 
 abbrev pub as_stage : {P : Type 0} → (P → List ℕ → List ℕ) → (P → List ℕ → Option (List ℕ))
-    → (TransformLine → List ℕ → Option (List ℕ)) → (TransformLine → List ℕ → List ℕ) → (P → ℕ) →
-    (TransformLine → ℕ)
+    → (TransformLine → List ℕ → Option (List ℕ)) → (TransformLine → List ℕ → List ℕ) → (P → ℕ)
+    → (TransformLine → ℕ)
     → transform.Ghosts P TransformLine
 as_stage rest soon line_soon whole pause line_pause = record {
   rest = rest;
@@ -73,8 +73,8 @@ module _ {O P : Type 0} (origin : link.Ghosts O) where
     taken = λ told. h.taken told ∙ g.taken told;
     carried = h.carried ∙ g.carried;
     out = out_goes_on a.head a.out b.out c.out g.out
-        (subst (λ (head : HeadState). GoesOut head b.out c.out) (ap (λ (x : Carrier O P). x.head) g.others)
-        h.out);
+        (subst (λ (head : HeadState). GoesOut head b.out c.out)
+        (ap (λ (x : Carrier O P). x.head) g.others) h.out);
     others = h.others
         ∙ ap (λ (x : Carrier O P). record x { origin = c.origin; out = c.out; writes = c.writes }) g.others;
   }
@@ -98,8 +98,8 @@ pub refusal_on : {O P : Type 0} (origin : link.Ghosts O) (refuses : O → List �
     → CarrierGoes origin c d → SameRefusal (refuses c.origin) (refuses d.origin)
     → SameRefusal (CarrierRefuses refuses c) (CarrierRefuses refuses d)
 refusal_on {O} {P} origin refuses c d also refusal =
-    subst (λ (x : Carrier O P). SameRefusal (CarrierRefuses refuses c) (CarrierRefuses refuses x)) (sym
-    also.others) same
+    subst (λ (x : Carrier O P). SameRefusal (CarrierRefuses refuses c) (CarrierRefuses refuses x))
+    (sym also.others) same
   where
     same : SameRefusal (CarrierRefuses refuses c)
         (CarrierRefuses refuses (record c { origin = d.origin; out = d.out; writes = d.writes }))
@@ -120,17 +120,17 @@ stage_kept (S.Uploading other) new framing is stays = stays ∙ is
 -- less to read is less to do
 passes_less : (ls : List TransformLine) (m n : ℕ) → m ≤ n → passes ls m ≤ passes ls n
 passes_less [] m n less = less
-passes_less (l ∷ ls) m n less = let rest : passes ls m ≤ passes ls n = passes_less ls m n less in omega
-    (arith, rest, less)
+passes_less (l ∷ ls) m n less =
+    let rest : passes ls m ≤ passes ls n = passes_less ls m n less in omega (arith, rest, less)
 
 read_less : (ls : List TransformLine) (m n held : ℕ) → m ≤ n → to_read ls m held ≤ to_read ls n held
 read_less ls m n held less =
-    let rest : passes ls (m + held) ≤ passes ls (n + held) = passes_less ls (m + held) (n + held) (omega
-    (arith, less)) in
+    let rest : passes ls (m + held) ≤ passes ls (n + held) =
+    passes_less ls (m + held) (n + held) (omega (arith, less)) in
     omega (arith, rest, less)
 
-way_less : {P : Type 0} (ls : List TransformLine) (rest : P → List ℕ → List ℕ) (m n held : ℕ) (p : Option
-    (Passage P))
+way_less : {P : Type 0} (ls : List TransformLine) (rest : P → List ℕ → List ℕ) (m n held : ℕ)
+    (p : Option (Passage P))
     → m ≤ n → way_left ls rest m held p ≤ way_left ls rest n held p
 way_less ls rest m n held None less = omega arith
 way_less ls rest m n held (Some p) less = let more = read_less ls m n held less in omega (arith, more)
@@ -150,8 +150,8 @@ rises_by true true (Some a) (Some b) work work' n k rose none less =
 
 module _ {C O P : Type 0} (client : link.Ghosts C) (origin : link.Ghosts O) (inner : upstream.Ghosts O C)
     (stage : transform.Ghosts P TransformLine) where
-  module _ (f g : FrontSeen C) (c d : Carrier O P) (goes : FrontGoes client f g) (also : CarrierGoes origin c
-      d) where
+  module _ (f g : FrontSeen C) (c d : Carrier O P) (goes : FrontGoes client f g)
+      (also : CarrierGoes origin c d) where
     abbrev pub gone : Carrier O P
     gone = record c { origin = d.origin; out = d.out; writes = d.writes }
 
@@ -173,8 +173,8 @@ module _ {C O P : Type 0} (client : link.Ghosts C) (origin : link.Ghosts O) (inn
     handed_on told = goes.body.given told
 
     way_goes : (head : HeadState) (passage : Option (Passage P)) → GoesOut head c.out d.out
-        → WayBy client origin inner stage head passage f c → WayBy client origin inner stage head passage g
-        gone
+        → WayBy client origin inner stage head passage f c
+        → WayBy client origin inner stage head passage g gone
     way_goes H.Held passage out way = record {
       passage = way.passage;
       inbox = way.inbox;
@@ -187,8 +187,8 @@ module _ {C O P : Type 0} (client : link.Ghosts C) (origin : link.Ghosts O) (inn
     }
     way_goes (H.Sent len line) None out way = record {
       line_is = way.line_is;
-      lacks = λ told. subst (λ (list : List ℕ). Rattle.ts_request.specs.Upload.LacksUpload list) (sym
-          goes.source)
+      lacks = λ told. subst (λ (list : List ℕ). Rattle.ts_request.specs.Upload.LacksUpload list)
+          (sym goes.source)
           (way.lacks told);
       stands = λ told. record {
         head = (way.stands told).head;
@@ -245,8 +245,8 @@ module _ {C O P : Type 0} (client : link.Ghosts C) (origin : link.Ghosts O) (inn
             };
       }
 
-    pub pair_on : inner.paired g.client d.origin → SameRefusal (inner.refuses c.origin) (inner.refuses
-        d.origin)
+    pub pair_on : inner.paired g.client d.origin
+        → SameRefusal (inner.refuses c.origin) (inner.refuses d.origin)
         → CarrierPair client origin inner stage f c → CarrierPair client origin inner stage g d
     pair_on inside refusal pair =
         subst (λ (x : Carrier O P). CarrierPair client origin inner stage g x) (sym also.others)
@@ -274,8 +274,8 @@ module _ {C O P : Type 0} (client : link.Ghosts C) (origin : link.Ghosts O) (inn
         (carrier_left client origin inner stage g x)
         (taken_since (carrier_look origin.tells origin.look c) (carrier_look origin.tells origin.look x)))
         (sym also.others)
-        (rises_by client.tells origin.tells (inner.upload_left f.client c.origin) (inner.upload_left g.client
-        d.origin)
+        (rises_by client.tells origin.tells (inner.upload_left f.client c.origin)
+        (inner.upload_left g.client d.origin)
         (carrier_work stage.rest (body_most f.text (client.look f.client)) c)
         (carrier_work stage.rest (body_most g.text (client.look g.client)) gone)
         (taken_since (origin.look c.origin) (origin.look d.origin))

@@ -1,6 +1,5 @@
 -- A carrier as a link: the link to the origin inside, with the head that it holds and without the framing
--- line
--- that it puts into it.
+-- line that it puts into it.
 use Rattle.std.specs.Prelude.{◌≡◌, ℕ, ◌+◌, ◌-◌, ◌≤◌, List, [], ◌++◌, length, take, drop, Bool, true, false}
 use Rattle.std.specs.Prelude.{Option, Some, None, if◌then◌else◌}
 use Rattle.std.specs.Arc.{arc_value}
@@ -34,8 +33,7 @@ behind_head H.Held carried all = carried
 behind_head (H.Sent len line) carried all = drop len (without_line (H.Sent len line) all)
 
 -- the plan of a link that never leaves; of another nothing is told, since what a carrier tells as taken is
--- ahead
--- of what its origin took
+-- ahead of what its origin took
 abbrev pub plan_if : Option ℕ → Plan → Option Plan
 plan_if None p = Some p
 plan_if (Some m) p = None

@@ -1,8 +1,6 @@
 -- What holds of a front and a carrier that belong together: what the origin inside took, with what waits, is
--- the
--- head of the request with its framing line, and behind it the frames of a front of the request lines' work
--- on
--- what was read of the body (RFC 9112, sections 6 and 7.1; Developer's Guide, "Transformations").
+-- the head of the request with its framing line, and behind it the frames of a front of the request lines'
+-- work on what was read of the body (RFC 9112, sections 6 and 7.1; Developer's Guide, "Transformations").
 use Rattle.std.specs.Prelude.{◌≡◌, ℕ, ◌+◌, ◌*◌, ◌≤◌, ◌⊎◌, List, [], ◌++◌, length, Bool, true, false, Option}
 use Rattle.std.specs.Prelude.{Some, None, ⊤}
 use Rattle.ts_config.specs.declared.setup.TransformLine.{TransformLine}

@@ -1,6 +1,5 @@
 -- What each step of a request's body leaves of the way that it goes (RFC 9112, sections 6.3 and 7.1;
--- Developer's
--- Guide, "Transformations").
+-- Developer's Guide, "Transformations").
 use Rattle.std.specs.Prelude.{◌≡◌, ◌≢◌, ℕ, ◌+◌, ◌<◌, ◌≤◌, ◌++◌, List, [], length, take, true, false}
 use Rattle.std.specs.Prelude.{Option, Some, None}
 use Rattle.std.specs.Bool.{OnTrue}

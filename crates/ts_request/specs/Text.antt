@@ -1,5 +1,5 @@
 -- What a front holds of the bytes that its link gave.
-use Rattle.std.specs.Prelude.{◌≡◌, ℕ, ◌<◌, Bool, true, false, List, [], ◌++◌, length, drop}
+use Rattle.std.specs.Prelude.{◌≡◌, ℕ, ◌-◌, ◌<◌, Bool, true, false, List, [], ◌++◌, length, take, drop}
 use Rattle.httparse.specs.Grammar as grammar
 use Rattle.httparse.specs.Grammar.{print_request}
 use Rattle.ts_wire.specs.Limits.{head_limit}
@@ -32,6 +32,16 @@ waiting t = drop t.shown t.front
 -- more came
 abbrev pub with_more : Text → List ℕ → Text
 with_more t more = record t { front = t.front ++ more }
+
+-- what was held before the last so many bytes came
+abbrev pub before_last : ℕ → List ℕ → List ℕ
+before_last fresh bytes = take (length bytes - fresh) bytes
+
+-- No head ends within the last so many bytes, and more of one can be held: where there was no upload before
+-- them, there is none now.
+pub record CannotEnd (fresh : ℕ) (bytes : List ℕ) : Type 0 where
+  pub short : length bytes < head_limit
+  pub lacks : LacksUpload (before_last fresh bytes) → LacksUpload bytes
 
 -- what the first bytes of a client say of what is shown of it: with more of them it may be known; there is no
 -- upload, whatever follows; or there is one, whose head is stripped and behind which the rest stands

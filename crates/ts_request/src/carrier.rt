@@ -1,10 +1,10 @@
 //! The link to the origin of a request with an upload: it holds the request's head until its upload begins,
-//! and
-//! then sends it with the line that says how its body is framed, and the body behind it.
+//! and then sends it with the line that says how its body is framed, and the body behind it.
 ghost use Rattle.std.specs.Arc.{arc_value};
-ghost use Rattle.std.specs.Prelude.{◌≡◌, ◌<◌, ◌≤◌, [], length, IfOk};
+ghost use Rattle.std.specs.Prelude.{◌≡◌, ◌↔◌, ◌<◌, ◌≤◌, [], length, IfOk, IsTrue};
 ghost use Rattle.ts_link.specs.Link.{Writes};
 ghost use Rattle.ts_request.specs.Carrying.{HoldsPiece, IsFreshCarrier};
+ghost use Rattle.ts_request.specs.Delivered.{upload_mode_of};
 
 use crate::front::Front;
 use crate::passage::Passage;
@@ -16,6 +16,7 @@ use ts_iobuf::Waiting;
 use ts_link::{Got, Link, NoMemory, Put, Sourced};
 use ts_transform::Transform;
 use ts_upstream::{Uploaded, Upstream};
+use ts_wire::Mode;
 
 /// A head that is held has at most so many bytes.
 pub const MOST_HELD: usize = 4_194_304;
@@ -26,8 +27,7 @@ pub enum HeadState {
     /// It is held: no upload was called yet.
     Held,
     /// It goes to the origin. It has `len` bytes, and with it goes a line of `line` bytes, before its last CR
-    /// LF;
-    /// none where the request has no upload.
+    /// LF; none where the request has no upload.
     Sent { len: usize, line: usize },
 }
 
@@ -80,6 +80,24 @@ impl<O: Drop, P: Drop> Carrier<O, P> {
         &self.origin
     }
 
+    /// Whether nothing waits for the origin.
+    pub fn is_sent(&self) -> bool
+        ensures { IsTrue result ↔ (self.now.out ≡ []) }
+    {
+        self.out.is_empty()
+    }
+
+    /// How the body of the upload stands behind the head at the origin, once it was delivered whole: none
+    /// before that, and where the request has no upload.
+    pub fn upload_mode(&self) -> Option<Mode>
+        ensures { result ≡ upload_mode_of self.now }
+    {
+        let Some(passage) = &self.passage else {
+            return None;
+        };
+        if self.over { Some(passage.mode) } else { None }
+    }
+
     /// The origin inside, once the upload is left where it stands. It takes no memory.
     pub fn into_origin(self) -> O
         ensures { result ≡ self.origin }
@@ -126,8 +144,7 @@ impl<O: Link, P> Link for Carrier<O, P> {
     }
 
     /// Holds the piece, until the upload begins. From then on it is as if memory lacked, and so it is where
-    /// more
-    /// would be held than a head has.
+    /// more would be held than a head has.
     fn write(&mut self, piece: &[u8]) -> Put {
         match self.head {
             HeadState::Held => hold(&mut self.out, &mut self.writes, piece),
@@ -150,8 +167,8 @@ impl<O: Link, P> Link for Carrier<O, P> {
 }
 
 // The head is written first, then the origin's own upload runs to its end, and then the body is carried: what
-// waits
-// is written, then a piece is framed, a stage works, the end is framed, a block is fed or the client is read.
+// waits is written, then a piece is framed, a stage works, the end is framed, a block is fed or the client is
+// read.
 impl<C: Sourced + Drop, O: Upstream<C>, P: Transform<Line = TransformLine> + Drop> Upstream<
     Front<C>,
 > for Carrier<O, P> {

@@ -1,11 +1,12 @@
 //! What a front holds of the bytes that its client gave: the head of a request until it is known, and what is
 //! shown of it and follows it from then on.
-ghost use Rattle.std.specs.Prelude.{◌≡◌, ◌<◌, ◌≤◌, [], length, IfOk};
+ghost use Rattle.std.specs.Prelude.{◌≡◌, ◌<◌, ◌≤◌, [], false, length, IfOk};
 ghost use Rattle.ts_link.specs.LinkAnswers.{count_got};
 ghost use Rattle.ts_wire.specs.Limits.{head_limit};
 ghost use Rattle.ts_request.specs.declared.stage.Stage.{Stage};
 ghost use Rattle.ts_request.specs.Held.{Copies, FillsFrom, GivesFront, HandsFront, ReadsBehind};
-ghost use Rattle.ts_request.specs.Text.{Decides, is_heading, no_text};
+ghost use Rattle.ts_request.specs.Text.{CannotEnd, Decides, before_last, is_heading, no_text};
+ghost use Rattle.ts_request.specs.Upload.{LacksUpload};
 
 use crate::finding::{Found, find_upload};
 use crate::lines::keep_lines;
@@ -132,13 +133,28 @@ impl HeldText {
         got
     }
 
-    // Looks whether it is known by now what is shown of the client.
-    pub(crate) fn decide(&mut self)
+    // Whether a head may end within the last `fresh` bytes that are held, or no more of it can be held. A head
+    // ends with a line feed, so one that comes byte by byte is read once a line, and not at each byte.
+    fn may_end(&self, fresh: usize) -> bool
+        requires { fresh ≤ length self.now.front }
+        ensures { result ≡ false → CannotEnd fresh self.now.front }
+    {
+        let more = &self.room[self.kept - fresh..self.kept];
+        self.kept == MAX_HEAD || more.contains(&b'\n')
+    }
+
+    // Looks whether it is known by now what is shown of the client, once `fresh` more bytes of it came.
+    pub(crate) fn decide(&mut self, fresh: usize)
         requires heading { self.old.stage ≡ Stage.Heading }
         requires shown { self.old.shown ≡ 0 }
         requires behind { self.old.behind ≡ [] }
+        requires fresh { fresh ≤ length self.old.front }
+        requires lacks { LacksUpload (before_last fresh self.old.front) }
         ensures { Decides self.old self.new self.new.stage }
     {
+        if !self.may_end(fresh) {
+            return;
+        }
         match find_upload(&self.room[..self.kept]) {
             Found::More => {}
             Found::Never => self.stage = Stage::Passing,

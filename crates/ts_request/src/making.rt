@@ -1,6 +1,5 @@
 //! What the body of an upload goes to its origin with: its framing, the head with the line that says it, and
-//! the
-//! chain of the request lines.
+//! the chain of the request lines.
 ghost use Rattle.std.specs.Prelude.{◌≡◌, [], false, IfOk};
 ghost use Rattle.ts_passing.specs.Inserted.{AreOfLines};
 ghost use Rattle.ts_passing.specs.Lines.{ActsAsLines};
@@ -19,8 +18,7 @@ use ts_transform::{Chain, Transform};
 use ts_wire::{BodyReader, BodyState, ClientFraming, Framing, Mode, with_framing};
 
 /// How a body with this framing goes to the origin: by its length, where it has one and no line changes it,
-/// and
-/// else in chunks.
+/// and else in chunks.
 pub(crate) fn sent_framing(framing: Framing, lines: &[TransformLine]) -> ClientFraming
     ensures { result ≡ sent_framing framing lines.now }
 {

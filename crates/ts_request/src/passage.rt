@@ -1,6 +1,5 @@
 //! The way of a request's body to its origin: read by its framing, passed through the chain of the request
-//! lines
-//! and framed again, whatever links it comes from and goes to.
+//! lines and framed again, whatever links it comes from and goes to.
 ghost use Rattle.std.specs.Prelude.{◌≡◌, ◌≢◌, ◌<◌, ◌++◌, [], false, true, length, take};
 ghost use Rattle.std.specs.Prelude.{OnOk, OnErr, MatchOption};
 ghost use Rattle.ts_passing.specs.Feeding.{GetsPart};
@@ -145,8 +144,7 @@ impl<P: Transform + Drop> Passage<P> {
     }
 
     /// Feeds the first block of what waits to the reader of bodies, and gives the chain the part of it that
-    /// is
-    /// body. Where memory lacks for that part the reader has passed over it, and what waits stays.
+    /// is body. Where memory lacks for that part the reader has passed over it, and what waits stays.
     pub(crate) fn feed(&mut self, inbox: &mut Waiting) -> Result<(), NoMemory>
         requires some { inbox.old ≢ [] }
         requires goes_on { self.old.chain.given ≡ false }

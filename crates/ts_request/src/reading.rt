@@ -29,8 +29,8 @@ fn seek_once<C: Link>(client: &mut C, text: &mut HeldText) -> Sought
     ensures goes { C.goes client.old client.new }
 {
     match text.fill(client) {
-        Got::Bytes(_) => {
-            text.decide();
+        Got::Bytes(count) => {
+            text.decide(count);
             Sought::On
         }
         Got::End => {

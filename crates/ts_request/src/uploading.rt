@@ -274,8 +274,7 @@ fn carry<C: Sourced + Drop, O: Upstream<C>, P: Transform<Line = TransformLine> +
 }
 
 // Goes on with an upload that has begun: what waits is written, then the origin inside moves what it has to,
-// and
-// then the body is carried.
+// and then the body is carried.
 fn go_on<C: Sourced + Drop, O: Upstream<C>, P: Transform<Line = TransformLine> + Drop>(
     carrier: &mut Carrier<O, P>,
     front: &mut Front<C>,

@@ -4,5 +4,5 @@ use Rattle.ts_passing.proofs.Parting.{Continues}
 use Rattle.ts_request.proofs.making.fresh_parts.Given as goal
 
 abbrev pub invariant-loop-line : goal.invariant-loop-line
-invariant-loop-line g l = Continues g.P.Transform (λ line. true) l.lines (drop l.line-index l.lines)
-    l.parts.items
+invariant-loop-line g l = Continues g.P.Transform (λ line. true) l.lines
+    (drop l.line-index l.lines) l.parts.items

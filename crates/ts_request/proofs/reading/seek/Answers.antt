@@ -28,8 +28,8 @@ pub head-smaller : goal.head-smaller
 head-smaller g c =
     let stage = is_heading_stage c.head.text.stage (sym c.is_heading.ensures ∙ c.head-test.true) in
     heading_falls c.head.text c.seek_once.new.text stage
-    (heading_holds g.C.Link.tells c.head.text (g.C.Link.look c.head.client) stage c.head.invariant.holds).2
-    c.in-On.ensures.on
+    (heading_holds g.C.Link.tells c.head.text
+    (g.C.Link.look c.head.client) stage c.head.invariant.holds).2 c.in-On.ensures.on
 
 pub returns-in-Again-clause-moves : goal.returns-in-Again-clause-moves
 returns-in-Again-clause-moves g c =

@@ -6,8 +6,8 @@ use Rattle.ts_request.proofs.reading.seek.Given as goal
 -- nothing was shown yet
 abbrev pub invariant-head : goal.invariant-head
 invariant-head g l = record {
-  moves : Moves g.C.Link.tells l.initial.text l.text (g.C.Link.look l.initial.client) (g.C.Link.look l.client)
-      false false [];
+  moves : Moves g.C.Link.tells l.initial.text l.text (g.C.Link.look l.initial.client)
+      (g.C.Link.look l.client) false false [];
   holds : Holds g.C.Link.tells l.text (g.C.Link.look l.client);
   goes : g.C.Link.goes l.initial.client l.client;
 }

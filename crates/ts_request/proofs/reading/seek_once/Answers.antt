@@ -1,19 +1,20 @@
 -- Each answer of one read of the client for the head.
-use Rattle.std.proofs.Common.{ap, inl, ◌∙◌}
+use Rattle.std.proofs.Common.{ap, inl, subst, sym, ◌∙◌}
 use Rattle.ts_request.specs.Text.{Text}
+use Rattle.ts_request.specs.Upload.{LacksUpload}
 use Rattle.ts_request.proofs.FrontMoves.{filled_ended, filled_fails, filled_known, filled_on, filled_waits}
-use Rattle.ts_request.proofs.FrontMoves.{heading_holds, passes_known}
+use Rattle.ts_request.proofs.FrontMoves.{came_last, heading_holds, passes_known}
 use Rattle.ts_request.proofs.reading.seek_once.Goals as goal
 
 pub fill-requires-clause-room : goal.fill-requires-clause-room
 fill-requires-clause-room g c =
-    (heading_holds g.C.Link.tells c.args.text.now (g.C.Link.look c.args.client.now) c.requires.heading
-    c.requires.holds).2
+    (heading_holds g.C.Link.tells c.args.text.now
+    (g.C.Link.look c.args.client.now) c.requires.heading c.requires.holds).2
 
 pub fill-requires-clause-behind : goal.fill-requires-clause-behind
 fill-requires-clause-behind g c =
-    (heading_holds g.C.Link.tells c.args.text.now (g.C.Link.look c.args.client.now) c.requires.heading
-    c.requires.holds).1
+    (heading_holds g.C.Link.tells c.args.text.now
+    (g.C.Link.look c.args.client.now) c.requires.heading c.requires.holds).1
 
 pub decide-requires-clause-heading : goal.decide-requires-clause-heading
 decide-requires-clause-heading g c =
@@ -22,14 +23,23 @@ decide-requires-clause-heading g c =
 pub decide-requires-clause-shown : goal.decide-requires-clause-shown
 decide-requires-clause-shown g c =
     ap (λ (u : Text). u.shown) c.in-Bytes.ensures.fills.text
-    ∙ (heading_holds g.C.Link.tells c.args.text.now (g.C.Link.look c.args.client.now) c.requires.heading
-    c.requires.holds).0
+    ∙ (heading_holds g.C.Link.tells c.args.text.now
+    (g.C.Link.look c.args.client.now) c.requires.heading c.requires.holds).0
 
 pub decide-requires-clause-behind : goal.decide-requires-clause-behind
 decide-requires-clause-behind g c =
     ap (λ (u : Text). u.behind) c.in-Bytes.ensures.fills.text
-    ∙ (heading_holds g.C.Link.tells c.args.text.now (g.C.Link.look c.args.client.now) c.requires.heading
-    c.requires.holds).1
+    ∙ (heading_holds g.C.Link.tells c.args.text.now
+    (g.C.Link.look c.args.client.now) c.requires.heading c.requires.holds).1
+
+pub decide-requires-clause-fresh : goal.decide-requires-clause-fresh
+decide-requires-clause-fresh g c = (came_last c.in-Bytes.ensures.fills).0
+
+pub decide-requires-clause-lacks : goal.decide-requires-clause-lacks
+decide-requires-clause-lacks g c =
+    subst LacksUpload (sym (came_last c.in-Bytes.ensures.fills).1)
+    (heading_holds g.C.Link.tells c.args.text.now
+    (g.C.Link.look c.args.client.now) c.requires.heading c.requires.holds).3
 
 pub returns-in-Bytes-clause-moves : goal.returns-in-Bytes-clause-moves
 returns-in-Bytes-clause-moves g c =
@@ -46,8 +56,8 @@ returns-in-Bytes-clause-holds g c =
 pub returns-in-Bytes-clause-on : goal.returns-in-Bytes-clause-on
 returns-in-Bytes-clause-on g c =
     filled_on g.C.Link.tells c.args.text.now c.fill.new.self c.decide.new.self
-    (g.C.Link.look c.args.client.now) (g.C.Link.look c.fill.new.client) _ c.in-Bytes.ensures.fills
-    c.decide.ensures
+    (g.C.Link.look c.args.client.now)
+    (g.C.Link.look c.fill.new.client) _ c.in-Bytes.ensures.fills c.decide.ensures
 
 pub returns-in-End-clause-moves : goal.returns-in-End-clause-moves
 returns-in-End-clause-moves g c =

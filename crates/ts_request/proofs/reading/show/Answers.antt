@@ -32,13 +32,13 @@ returns-in-Passing-clause-shows g c =
     (client_shown g.C.Link.tells c.args.text.now c.give-count.new.self (g.C.Link.look c.args.client.now)
     (g.C.Link.look c.read.new.self) c.read.result
     c.args.into.now c.give-count.new.into c.read.new.into c.give-count.result c.give-count.ensures
-    c.if-count-gt0.false c.requires.room (sym c.stage.ensures ∙ c.in-Passing.is) c.requires.holds
-    c.read.ensures.reads).0
+    c.if-count-gt0.false c.requires.room
+    (sym c.stage.ensures ∙ c.in-Passing.is) c.requires.holds c.read.ensures.reads).0
 
 pub returns-in-Passing-clause-holds : goal.returns-in-Passing-clause-holds
 returns-in-Passing-clause-holds g c =
     (client_shown g.C.Link.tells c.args.text.now c.give-count.new.self (g.C.Link.look c.args.client.now)
     (g.C.Link.look c.read.new.self) c.read.result
     c.args.into.now c.give-count.new.into c.read.new.into c.give-count.result c.give-count.ensures
-    c.if-count-gt0.false c.requires.room (sym c.stage.ensures ∙ c.in-Passing.is) c.requires.holds
-    c.read.ensures.reads).1
+    c.if-count-gt0.false c.requires.room
+    (sym c.stage.ensures ∙ c.in-Passing.is) c.requires.holds c.read.ensures.reads).1

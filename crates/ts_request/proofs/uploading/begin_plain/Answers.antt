@@ -11,6 +11,6 @@ returns g c =
     begins_plain g.C.Link g.O.Link g.O.Upstream g.P.Transform front c.args.carrier.now c.requires.held
     c.requires.pair
     (λ told. source_plain g.C.Link.look front c.requires.passing (c.known.ensures.shows told) ((subst (λ l.
-    g.C.Link.tells ≡ true → all_of (g.C.Link.look l) ≡ (g.C.Link.look l).source) c.client.ensures
-    c.known-2.ensures) told))
+    g.C.Link.tells ≡ true
+    → all_of (g.C.Link.look l) ≡ (g.C.Link.look l).source) c.client.ensures c.known-2.ensures) told))
     c.len-len.result (sym c.len-len.ensures)

@@ -13,7 +13,7 @@ returns g c f pair =
     subst (λ a. UploadsStep g.C.Link g.O.Link g.O.Upstream g.P.Transform a f f old
     (record old { out = c.end.new.out; passage = Some c.end.new.self })) (sym c.answer_work.ensures)
     (end_by g.C.Link g.O.Link g.O.Upstream g.P.Transform
-    (λ l. g.met.C.Link.goes_still l l (g.met.C.Link.stays l)) (λ l. g.met.O.Link.goes_still l l
-    (g.met.O.Link.stays l)) f
+    (λ l. g.met.C.Link.goes_still l l (g.met.C.Link.stays l))
+    (λ l. g.met.O.Link.goes_still l l (g.met.O.Link.stays l)) f
     old p c.end.new.self pair c.in-Some.is c.requires.asked next.0 c.end.new.out c.end.result next.1
     c.end.ensures.ok c.end.ensures.ended c.end.ensures.err)

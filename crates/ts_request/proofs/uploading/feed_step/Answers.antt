@@ -14,8 +14,8 @@ returns g c f pair =
     subst (λ a. UploadsStep g.C.Link g.O.Link g.O.Upstream g.P.Transform a f f old
     (record old { inbox = c.feed.new.inbox; passage = Some c.feed.new.self })) (sym c.answer_work.ensures)
     (feed_by g.C.Link g.O.Link g.O.Upstream g.P.Transform
-    (λ l. g.met.C.Link.goes_still l l (g.met.C.Link.stays l)) (λ l. g.met.O.Link.goes_still l l
-    (g.met.O.Link.stays l)) f
+    (λ l. g.met.C.Link.goes_still l l (g.met.C.Link.stays l))
+    (λ l. g.met.O.Link.goes_still l l (g.met.O.Link.stays l)) f
     old p c.feed.new.self pair c.in-Some.is c.requires.asked next.0 c.feed.new.inbox c.feed.result next.1
     next.2 c.feed.ensures.ok c.feed.ensures.err)
 

@@ -13,7 +13,7 @@ returns g c f pair =
     subst (λ a. UploadsStep g.C.Link g.O.Link g.O.Upstream g.P.Transform a f f old
     (record old { out = c.frame.new.out; passage = Some c.frame.new.self })) (sym c.answer_work.ensures)
     (frame_by g.C.Link g.O.Link g.O.Upstream g.P.Transform
-    (λ l. g.met.C.Link.goes_still l l (g.met.C.Link.stays l)) (λ l. g.met.O.Link.goes_still l l
-    (g.met.O.Link.stays l)) f
+    (λ l. g.met.C.Link.goes_still l l (g.met.C.Link.stays l))
+    (λ l. g.met.O.Link.goes_still l l (g.met.O.Link.stays l)) f
     old p c.frame.new.self pair c.in-Some.is c.requires.asked next.0 c.frame.new.out c.frame.result
     c.frame.ensures.ok c.frame.ensures.err)

@@ -18,14 +18,14 @@ returns-in-Ok g c =
     subst (λ a. UploadsStep g.C.Link g.O.Link g.O.Upstream g.P.Transform a front new old
     (record old { inbox = c.read_on.new.inbox })) (sym c.answer_read.ensures)
     (read_by g.C.Link g.O.Link g.O.Upstream g.P.Transform
-    (λ l. g.met.C.Link.goes_still l l (g.met.C.Link.stays l)) (λ l. g.met.O.Link.goes_still l l
-    (g.met.O.Link.stays l))
+    (λ l. g.met.C.Link.goes_still l l (g.met.C.Link.stays l))
+    (λ l. g.met.O.Link.goes_still l l (g.met.O.Link.stays l))
     front new old c.read_on.new.inbox c.in-Ok.got c.requires.pair c.requires.asked next.0 next.1 next.2 r
     (g.met.C.Link.goes_still front.client new.client r.goes)
     (g.met.O.Upstream.pair_stays front.client new.client old.origin old.origin c.requires.pair.inside r.goes
     (g.met.O.Link.stays old.origin))
-    (g.met.O.Upstream.left_rises front.client new.client old.origin old.origin r.goes (g.met.O.Link.stays
-    old.origin))
+    (g.met.O.Upstream.left_rises front.client new.client old.origin old.origin r.goes
+    (g.met.O.Link.stays old.origin))
     g.met.P.Transform.is_silent c.known.ensures.shows (subst (λ l. g.C.Link.tells ≡ true → all_of
     (g.C.Link.look l) ≡ (g.C.Link.look l).source) c.client.ensures
     c.known-in-Ok.ensures))

@@ -12,8 +12,8 @@ returns g c =
     let next = has_passage old.passage old.inbox N.Refuse c.requires.next
     (λ e. let wrong : N.Refuse ≡ N.Finish = e in cc) in
     refuse_step g.C.Link g.O.Link g.O.Upstream g.P.Transform
-    (λ l. g.met.C.Link.goes_still l l (g.met.C.Link.stays l)) (λ l. g.met.O.Link.goes_still l l
-    (g.met.O.Link.stays l))
+    (λ l. g.met.C.Link.goes_still l l (g.met.C.Link.stays l))
+    (λ l. g.met.O.Link.goes_still l l (g.met.O.Link.stays l))
     c.args.front.now old c.requires.pair c.known.ensures.shows (subst (λ l. g.C.Link.tells ≡ true → all_of
     (g.C.Link.look l) ≡ (g.C.Link.look l).source) c.client.ensures
     c.known-2.ensures) next.0 next.1 next.2.1 next.2.2

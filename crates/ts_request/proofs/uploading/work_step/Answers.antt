@@ -13,7 +13,7 @@ returns g c f pair =
     subst (λ a. UploadsStep g.C.Link g.O.Link g.O.Upstream g.P.Transform a f f old
     (record old { passage = Some c.work.new.self })) (sym c.answer_work.ensures)
     (work_by g.C.Link g.O.Link g.O.Upstream g.P.Transform
-    (λ l. g.met.C.Link.goes_still l l (g.met.C.Link.stays l)) (λ l. g.met.O.Link.goes_still l l
-    (g.met.O.Link.stays l)) f
+    (λ l. g.met.C.Link.goes_still l l (g.met.C.Link.stays l))
+    (λ l. g.met.O.Link.goes_still l l (g.met.O.Link.stays l)) f
     old p c.work.new.self pair c.in-Some.is c.requires.asked next.0 c.work.result c.work.ensures.ok
     c.work.ensures.err)

@@ -13,6 +13,16 @@ use Rattle.ts_request.specs.declared.stage.Stage.TheVariants as S
 use Rattle.ts_request.proofs.HeldBytes.{stripped}
 use Rattle.ts_request.proofs.held.HeldText.decide.Goals as goal
 
+pub returns-then-not-may_end : goal.returns-then-not-may_end
+returns-then-not-may_end c =
+    let now = c.args.self.now in
+    let quiet = c.may_end.ensures c.if-not-may_end.true in
+    subst (λ s. Decides now now s) (sym c.requires.heading) (
+      refl,
+      quiet.lacks c.requires.lacks,
+      quiet.short,
+    )
+
 pub returns-in-More : goal.returns-in-More
 returns-in-More c =
     let now = c.args.self.now in
