@@ -1,16 +1,17 @@
 -- A transaction between plain links, with the layers that carry the body of its request: a front over the
 -- client and a carrier over the origin (RFC 9112, section 6; Developer's Guide, "Transformations").
-use Rattle.std.specs.Prelude.{◌≡◌, Bool, true, Option, Some, None, ⊤}
+use Rattle.std.specs.Prelude.{◌≡◌, ◌≢◌, ◌↔◌, Bool, true, Option, Some, None, IsTrue, ⊤}
 use Rattle.ts_config.specs.declared.setup.Setup.{Setup}
 use Rattle.ts_config.specs.declared.setup.TransformLine.{TransformLine}
 use Rattle.ts_journal.specs.State.{State}
 use Rattle.ts_link.specs.Link.{IsSure, Look, NeverLeaves}
 use Rattle.ts_link.specs.declared.link.Link as link
 use Rattle.ts_request.specs.Carrying.{CarrierGoes, CarrierStill, IsFreshCarrier, carrier_look}
-use Rattle.ts_request.specs.Delivered.{DeliversIfPaired}
+use Rattle.ts_request.specs.Delivered.{DeliversIfPaired, IsSent, upload_mode}
 use Rattle.ts_request.specs.Front.{FrontGoes, FrontSeen, FrontStill, ShowsClient, front_look, fresh_front}
 use Rattle.ts_request.specs.Pairing.{CarrierPair, CarrierRefuses, carrier_left}
 use Rattle.ts_request.specs.declared.carrier.Carrier.{Carrier}
+use Rattle.ts_request.specs.declared.stage.Stage.TheVariants as S
 use Rattle.ts_transform.specs.declared.transform.Transform as transform
 use Rattle.ts_txn.specs.Making.{ArePaired}
 use Rattle.ts_txn.specs.declared.making.TxnParts.{TxnParts}
@@ -20,6 +21,7 @@ use Rattle.ts_upstream.specs.declared.upstream.Upstream as upstream
 use Rattle.ts_exchange.specs.Ends.{Ends, IsTagBetween}
 use Rattle.ts_exchange.specs.Left.{Exchanges, IsBetween}
 use Rattle.ts_exchange.specs.declared.exchange.Promise.{Promise}
+use Rattle.ts_layers.specs.declared.layers.PlainExchange.{PlainExchange}
 
 -- ---- the layers as links
 
@@ -101,6 +103,11 @@ pub record IsInside {C O P : Type 0} (parts : TxnParts (FrontSeen C) (Carrier O 
   pub cuts : plain.cuts ≡ parts.cuts
   pub end_is : plain.end ≡ parts.end
 
+-- it is known what the front shows of its client, and nothing waits for the origin
+pub record IsSettled {C O P : Type 0} (front : FrontSeen C) (carrier : Option (Carrier O P)) : Type 0 where
+  pub known : front.text.stage ≢ S.Heading
+  pub sent : IsSent carrier
+
 module _ {C O P : Type 0} (client : link.Ghosts C) (origin : link.Ghosts O) (inner : upstream.Ghosts O C)
     (stage : transform.Ghosts P TransformLine) where
   -- It is the transaction between these ends with their layers, and what is to hold of it holds, where the
@@ -113,17 +120,20 @@ module _ {C O P : Type 0} (client : link.Ghosts C) (origin : link.Ghosts O) (inn
         (carrier_origin client origin inner stage) stage layered started t s
 
   -- What is left of a transaction between these ends: it is left by one with the layers over them, which
-  -- belong together still, of which holds what holds of a
-  -- transaction, whose front shows its client, and whose carrier brought its origin the upload so.
-  pub record LayeredExchanges (ends : Ends C O) (started : Bool) (s : State) (parts : TxnParts C O)
+  -- belong together still, of which holds what holds of a transaction, whose front shows its client, and
+  -- whose carrier brought its origin the upload so.
+  pub record LayeredExchanges (ends : Ends C O) (started : Bool) (s : State) (left : PlainExchange C O)
       : Type 0 where
     pub layered : Ends (FrontSeen C) (Carrier O P)
     pub over : AreLayersOver ends layered
     pub shown : TxnParts (FrontSeen C) (Carrier O P)
-    pub inside : IsInside shown parts
+    pub inside : IsInside shown left.parts
     pub exchanges : Exchanges (front_link client) (carrier_link origin)
         (carrier_origin client origin inner stage) layered started s shown
     pub shows : client.tells ≡ true → ShowsClient client.look shown.client
     pub paired : ArePaired (CarrierPair client origin inner stage) shown.client shown.origin
     pub carried : (c : Carrier O P) → shown.origin ≡ Some c
         → DeliversIfPaired client origin inner stage shown.client c
+    -- how its body stands behind the head there, where it was delivered whole
+    pub upload : left.upload ≡ upload_mode shown.origin
+    pub settled : IsTrue left.settled ↔ IsSettled shown.client shown.origin

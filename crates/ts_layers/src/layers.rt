@@ -1,17 +1,19 @@
 //! The layers of a transaction's ends, which carry the body of a request: a front of its client, and a
 //! carrier to its origin. They are put on as it is made, and taken off what is left of it.
 
-ghost use Rattle.std.specs.Prelude.{◌≡◌, ℕ, List, [], Bool, false, true, Some, IfOk};
+ghost use Rattle.std.specs.Prelude.{◌≡◌, ◌↔◌, ℕ, List, [], Bool, false, true, Some, IfOk, IsTrue};
 ghost use Rattle.std.specs.Arc.{arc_value};
 ghost use Rattle.ts_group.specs.declared.action.Named.{Named};
 ghost use Rattle.ts_journal.specs.State.{State};
 ghost use Rattle.ts_passing.specs.Lines.{ActsAsLines};
-ghost use Rattle.ts_request.specs.Delivered.{DeliversIfPaired};
+ghost use Rattle.ts_request.specs.Delivered.{DeliversIfPaired, upload_mode};
 ghost use Rattle.ts_request.specs.Front.{ShowsClient, fresh_front};
 ghost use Rattle.ts_txn.specs.Making.{IsTxnSetup};
 ghost use Rattle.ts_txn.specs.World.{IsSoundTxn, IsTxnOf};
 ghost use Rattle.ts_exchange.specs.Ends.{AreNewEnds, Ends, ends_of};
-ghost use Rattle.ts_layers.specs.Layers.{AreSureLayers, IsInside, IsLayerOver, IsLayeredTag, origin_inside};
+ghost use Rattle.ts_exchange.specs.Left.{end_of};
+ghost use Rattle.ts_layers.specs.Layers.{AreSureLayers, IsInside, IsLayerOver, IsLayeredTag, IsSettled};
+ghost use Rattle.ts_layers.specs.Layers.{origin_inside};
 ghost use Rattle.ts_layers.specs.Layers.{IsLayeredBetween, LayeredExchanges};
 ghost use Rattle.ts_layers.specs.Layers.{carrier_link, carrier_origin, front_link};
 
@@ -20,16 +22,17 @@ use std::sync::Arc;
 use ts_config::{Setup, TransformLine};
 use ts_exchange::{Exchange, ExchangeSetting, ExchangeTag, Promise, make_exchange, take_apart};
 use ts_link::{Link, NoMemory, Sourced};
-use ts_request::{Carrier, Front, delivered, paired};
+use ts_request::{Carrier, Front, Stage, delivered, paired};
 use ts_transform::Transform;
 use ts_txn::TxnParts;
 use ts_upstream::Upstream;
+use ts_wire::Mode;
 
-// The layers over the two ends of a transaction.
+/// The layers over the two ends of a transaction.
 #[derive(Drop)]
-struct Layers<C: Link, O, P> {
-    front: Front<C>,
-    carrier: Option<Carrier<O, P>>,
+pub(crate) struct Layers<C: Link, O, P> {
+    pub(crate) front: Front<C>,
+    pub(crate) carrier: Option<Carrier<O, P>>,
 }
 
 /// A transaction between plain links whose request's body goes through the request lines on its way.
@@ -38,8 +41,12 @@ pub type LayeredExchange<C, O, P> = Exchange<Front<C>, Carrier<O, P>, P>;
 /// What a slot promises of it.
 pub type LayeredTag<C, O, P> = ExchangeTag<Front<C>, Carrier<O, P>>;
 
-// The layers over a client and an origin, which were not used.
-fn layers_over<C: Sourced + Drop, O: Upstream<C> + Drop, P: Transform<Line = TransformLine> + Drop>(
+/// The layers over a client and an origin, which were not used.
+pub(crate) fn layers_over<
+    C: Sourced + Drop,
+    O: Upstream<C> + Drop,
+    P: Transform<Line = TransformLine> + Drop,
+>(
     alloc: Global,
     setup: &Arc<Setup>,
     client: C,
@@ -66,6 +73,17 @@ fn layers_over<C: Sourced + Drop, O: Upstream<C> + Drop, P: Transform<Line = Tra
         front,
         carrier: Some(carrier),
     })
+}
+
+/// What is left of a transaction whose layers were taken off.
+#[derive(Drop)]
+pub struct PlainExchange<C, O> {
+    /// Its parts, between the plain links.
+    pub parts: TxnParts<C, O>,
+    /// How the body of its request stands behind the head at the origin, where it was delivered whole.
+    pub upload: Option<Mode>,
+    /// Whether it is known what was shown of the client, and nothing waits for the origin.
+    pub settled: bool,
 }
 
 /// A transaction of this number between a client and an origin, which were not used, with the layers over
@@ -154,16 +172,50 @@ pub fn plain_parts<
     }
 }
 
-/// Takes it apart into what is left of it: the plain links between which it was made, and how it ended.
+// How the body of an upload stands behind the head at the origin, if there is one and it was delivered whole.
+fn upload_of<O: Drop, P: Drop>(carrier: &Option<Carrier<O, P>>) -> Option<Mode>
+    ensures { result ≡ upload_mode carrier.now }
+{
+    let Some(carrier) = carrier else {
+        return None;
+    };
+    carrier.upload_mode()
+}
+
+// Whether it is known what the front shows, and nothing waits for the origin.
+fn is_settled<C: Link + Drop, O: Drop, P: Drop>(
+    front: &Front<C>,
+    carrier: &Option<Carrier<O, P>>,
+) -> bool
+    ensures { IsTrue result ↔ IsSettled front.now carrier.now }
+{
+    if let Stage::Heading = front.stage() {
+        return false;
+    }
+    let Some(carrier) = carrier else {
+        return true;
+    };
+    carrier.is_sent()
+}
+
+/// Takes it apart into what is left of it: the plain links between which it was made, how it ended, and how
+/// the body of its request stands at the origin.
 pub fn take_layered_apart<
     C: Sourced + Drop,
     O: Upstream<C> + Drop,
     P: Transform<Line = TransformLine> + Drop,
->(exchange: LayeredExchange<C, O, P>) -> TxnParts<C, O>
+>(exchange: LayeredExchange<C, O, P>) -> PlainExchange<C, O>
     ensures left { (ends : Ends C O) (started : Bool) (s : State)
         → IsLayeredBetween C.Link O.Link O.Upstream.own P.Transform ends started exchange s
         → LayeredExchanges C.Link O.Link O.Upstream.own P.Transform ends started s result }
+    ensures ended { result.parts.end ≡ end_of exchange }
 {
     let parts = take_apart(exchange);
-    plain_parts(parts)
+    let upload = upload_of(&parts.origin);
+    let settled = is_settled(&parts.client, &parts.origin);
+    PlainExchange {
+        parts: plain_parts(parts),
+        upload,
+        settled,
+    }
 }

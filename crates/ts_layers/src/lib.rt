@@ -3,5 +3,9 @@
 #![tactic(auto)]
 
 mod layers;
+mod row;
 
-pub use layers::{LayeredExchange, LayeredTag, make_layered, plain_parts, take_layered_apart};
+pub use layers::{
+    LayeredExchange, LayeredTag, PlainExchange, make_layered, plain_parts, take_layered_apart,
+};
+pub use row::{LayeredRow, LayeredRowTag, LayeredWorld, make_layered_group};

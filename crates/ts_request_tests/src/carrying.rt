@@ -2,6 +2,7 @@
 ghost use Rattle.std.specs.Prelude.{◌≡◌, ◌≤◌, []};
 ghost use Rattle.ts_link.specs.MemLink.{look_of};
 
+use crate::rows::MEMORY;
 use std::process::Abort;
 use std::sync::Arc;
 use ts_config::read_config;
@@ -9,8 +10,6 @@ use ts_link::{Got, Link, MemLink, Octets, Put};
 use ts_request::{Carrier, Front, delivered, paired};
 use ts_stock::Stock;
 use ts_upstream::{Uploaded, Upstream};
-
-const MEMORY: &str = "memory is ample";
 
 // No upload here takes so many calls.
 const MOST_CALLS: usize = 400;
@@ -25,8 +24,13 @@ struct Row {
     taken: &'static [u8],
 }
 
-// A link that gives these bytes in pieces of so many, and takes at most so many a write.
-fn giving(rt: &(impl AllocGlobal + Abort), bytes: &[u8], piece: u32, take: usize) -> MemLink
+/// A link that gives these bytes in pieces of so many, and takes at most so many a write.
+pub(crate) fn giving(
+    rt: &(impl AllocGlobal + Abort),
+    bytes: &[u8],
+    piece: u32,
+    take: usize,
+) -> MemLink
     requires { 1 ≤ take }
     ensures given { (look_of result).given ≡ [] }
     ensures taken { (look_of result).taken ≡ [] }

@@ -1,10 +1,12 @@
 //! Tests of request bodies: what is shown of a request with one, what is handed over of it, and what of it an
-//! origin gets.
+//! origin gets, of a carrier alone and of a transaction.
 #![tactic(auto)]
 
 #[cfg(test)]
 mod carrying;
 #[cfg(test)]
 mod fronts;
+#[cfg(test)]
+mod layered;
 #[cfg(test)]
 mod rows;
