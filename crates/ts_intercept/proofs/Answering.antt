@@ -1,11 +1,13 @@
 -- Who answered is read off how the link stands.
-use Rattle.std.proofs.Common.{◌≡◌, ◌++◌, [], drop, take, true, Bool, Option, Some, None, refl, sym, ap, subst, ◌∙◌}
+use Rattle.std.proofs.Common.{◌≡◌, ◌++◌, [], drop, take, true, Bool, Option, Some, None, refl, sym, ap, subst}
+use Rattle.std.proofs.Common.{◌∙◌}
 use Rattle.std.proofs.lemmas.List.{append-nil, take-append-drop}
+use Rattle.std.specs.Prelude.{is_some}
 use Rattle.ts_link.specs.Link.{Look, all_of}
 use Rattle.ts_wire.specs.Blank.{LacksBlank}
 use Rattle.ts_intercept.specs.Answered.{Answered, ended, itself, nobody, origin}
 use Rattle.ts_intercept.specs.Deciding.{IsServed}
-use Rattle.ts_intercept.specs.Seen.{given_by, inside, kept, left_by, lines_in, seen, shown}
+use Rattle.ts_intercept.specs.Seen.{given_by, inside, kept, left_by, lines_in, seen, shown, unsent}
 use Rattle.ts_intercept.specs.Served.{longest}
 use Rattle.ts_intercept.specs.Standing.{IsSound, KeepsBy, StandsBy}
 use Rattle.ts_intercept.specs.declared.choice.Choice.{Choice}
@@ -37,6 +39,7 @@ module _ {O : Type 0} (tells : Bool) (look : O → Look) (c : Choice O) (t : tel
         (subst (λ (x : Stage). given_by x (inside look c.origin).given ≡ []) (sym is)
         (given_is at.untouched.same))
         at.untouched.same
+        at.untouched.on_time
     answered_by (S.Served answer given) is at =
         let all : all_of (shown (S.Served answer given) (longest (lines_in c)) (kept c) c.reads c.writes
         c.uploaded
@@ -51,13 +54,15 @@ module _ {O : Type 0} (tells : Bool) (look : O → Look) (c : Choice O) (t : tel
         (inside look c.origin)))) (sym is)
         (subst (λ x. IsServed (lines_in c) (c.held.items ++ c.gone) x) (sym all) at.serves)))
         at.untouched.same
+        at.untouched.on_time
     answered_by S.HandedOn is at = handed c.origin refl
       where
         handed : (o : Option O) → c.origin ≡ o → Answered look c
         handed (Some o) there = origin o there
             (record {
-              held = kept c;
-              taken = ap (λ x. (inside look x).taken ++ kept c) there;
+              taken = ap (λ x. (inside look x).taken ++ kept c) there
+                  ∙ ap (λ x. (look o).taken ++ (unsent c ++ x)) (at.none_lost (ap is_some there))
+                  ∙ ap (λ x. (look o).taken ++ x) (append-nil (unsent c));
               given = subst (λ (x : Stage). given_by x (inside look c.origin).given ≡ (look o).given) (sym is)
                   (ap (λ x. (inside look x).given) there);
               left = subst (λ (x : Stage). left_by x (longest (lines_in c)) (inside look c.origin).left ≡

@@ -1,5 +1,7 @@
 -- How a link that chooses stands after a call.
-use Rattle.std.proofs.Common.{◌≡◌, ℕ, ◌≤◌, ◌++◌, Vec, Global, List, [], length, drop, Bool, true, false, Option, Some, None, refl, sym, ap, subst, ◌∙◌, append_assoc, length-append, arith}
+use Rattle.std.proofs.Common.{◌≡◌, ℕ, ◌≤◌, ◌++◌, Vec, Global, List, [], length, drop, Bool, true, false}
+use Rattle.std.proofs.Common.{Option, Some, None, refl, sym, ap, subst, ◌∙◌, append_assoc, length-append}
+use Rattle.std.proofs.Common.{arith}
 use Rattle.std.specs.Prelude.{is_some}
 use Rattle.std.proofs.lemmas.Bool.{false≢true}
 use Rattle.std.proofs.lemmas.List.{append-nil, drop-append-le}
@@ -9,7 +11,8 @@ use Rattle.ts_intercept.specs.Deciding.{Decides, HasHead, IsOther, IsServed}
 use Rattle.ts_intercept.specs.Limits.{most_held}
 use Rattle.ts_intercept.specs.Moving.{Both}
 use Rattle.ts_intercept.specs.Seen.{inside}
-use Rattle.ts_intercept.specs.Standing.{IsUnused, MayDrop, Stands, StandsBy, StandsHandedOn, StandsServed, StandsUndecided}
+use Rattle.ts_intercept.specs.Standing.{IsUnused, MayDrop, Stands, StandsBy, StandsHandedOn, StandsServed}
+use Rattle.ts_intercept.specs.Standing.{StandsUndecided}
 use Rattle.ts_intercept.specs.declared.choice.Stage.{Stage}
 use Rattle.ts_intercept.specs.declared.choice.Stage.TheVariants as S
 

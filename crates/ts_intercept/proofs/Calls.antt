@@ -1,5 +1,7 @@
 -- What one call of a link that chooses shows, and how it stands behind it.
-use Rattle.std.proofs.Common.{◌≡◌, ℕ, ◌+◌, ◌<◌, ◌≤◌, ◌++◌, Vec, Global, List, [], length, take, drop, replicate, true, Bool, Option, Some, refl, sym, ap, subst, ◌∙◌, length-append, arith}
+use Rattle.std.proofs.Common.{◌≡◌, ℕ, ◌+◌, ◌<◌, ◌≤◌, ◌++◌, Vec, Global, List, [], length, take, drop}
+use Rattle.std.proofs.Common.{replicate, true, Bool, Option, Some, refl, sym, ap, subst, ◌∙◌, length-append}
+use Rattle.std.proofs.Common.{arith}
 use Rattle.std.specs.Prelude.{is_some}
 use Rattle.std.proofs.lemmas.Bool.{false≢true}
 use Rattle.std.proofs.lemmas.List.{append-nil, drop_all, length-drop, length-replicate}
@@ -20,7 +22,8 @@ use Rattle.ts_intercept.specs.declared.choice.Choice.{Choice}
 use Rattle.ts_intercept.specs.declared.choice.Stage.{Stage}
 use Rattle.ts_intercept.specs.declared.choice.Stage.TheVariants as S
 use Rattle.ts_intercept.proofs.Bounds.{both_some, handed_sound, kept_more, stands_at, untouched_unused}
-use Rattle.ts_intercept.proofs.Looks.{no_more_none, no_more_same, shorter_replaces, shown_early, shown_on, shown_served, shown_taken, shown_write}
+use Rattle.ts_intercept.proofs.Looks.{no_more_none, no_more_same, shorter_replaces, shown_early, shown_on}
+use Rattle.ts_intercept.proofs.Looks.{shown_served, shown_taken, shown_write}
 use Rattle.ts_link.proofs.MemReads.{same_replaces}
 use Rattle.ts_intercept.proofs.Moves.{one_text}
 use Rattle.ts_intercept.proofs.Plans.{told_within}

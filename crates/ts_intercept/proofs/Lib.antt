@@ -7,3 +7,4 @@ pub mod Calls
 pub mod Moves
 pub mod Uploads
 pub mod Answering
+pub mod HostLines

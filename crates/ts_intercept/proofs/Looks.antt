@@ -1,12 +1,16 @@
 -- What is seen of a link that chooses after a call, by what is seen of the origin.
-use Rattle.std.proofs.Common.{◌≡◌, ℕ, ◌+◌, ◌<◌, ◌≤◌, ◌++◌, Vec, Global, List, [], length, take, drop, replicate, true, Bool, Option, Some, None, refl, sym, ap, subst, ◌∙◌, append_assoc, length-append, arith}
+use Rattle.std.proofs.Common.{◌≡◌, ℕ, ◌+◌, ◌<◌, ◌≤◌, ◌++◌, Vec, Global, List, [], length, take, drop}
+use Rattle.std.proofs.Common.{replicate, true, Bool, Option, Some, None, refl, sym, ap, subst, ◌∙◌}
+use Rattle.std.proofs.Common.{append_assoc, length-append, arith}
 use Rattle.std.specs.Prelude.{◌≢◌, IsSomeAnd}
 use Rattle.std.proofs.lemmas.List.{append-nil, take_all, take-append-drop, drop-drop}
 use Rattle.std.proofs.lemmas.Bool.{false≢true}
 use Rattle.std.proofs.Math.Seq.{take-add}
 use Rattle.ts_link.specs.Counts.{one_more}
-use Rattle.ts_link.specs.Link.{HasLeft, IsSure, IsSurePlan, Lacks, Look, MayReplace, NoMore, Reads, ReadsSurely, Writes, WritesSurely}
-use Rattle.ts_link.specs.LinkAnswers.{count_got, count_put, got_again, got_failed, put_again, put_failed, writes_after}
+use Rattle.ts_link.specs.Link.{HasLeft, IsSure, IsSurePlan, Lacks, Look, MayReplace, NoMore, Reads}
+use Rattle.ts_link.specs.Link.{ReadsSurely, Writes, WritesSurely}
+use Rattle.ts_link.specs.LinkAnswers.{count_got, count_put, got_again, got_failed, put_again, put_failed}
+use Rattle.ts_link.specs.LinkAnswers.{writes_after}
 use Rattle.ts_link.specs.declared.link.Got.{Got}
 use Rattle.ts_link.specs.declared.link.Got.TheVariants as G
 use Rattle.ts_link.specs.declared.link.Put.{Put}

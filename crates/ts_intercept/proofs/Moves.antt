@@ -1,5 +1,6 @@
 -- What an upload of a link that chooses shows, by what the origin's own calls show.
-use Rattle.std.proofs.Common.{◌≡◌, ℕ, ◌+◌, ◌≤◌, ◌++◌, List, [], length, take, drop, true, false, Bool, Option, Some, None, refl, sym, ap, subst, ◌∙◌, append_assoc, length-append, inr, arith}
+use Rattle.std.proofs.Common.{◌≡◌, ℕ, ◌+◌, ◌≤◌, ◌++◌, List, [], length, take, drop, true, false, Bool, Option}
+use Rattle.std.proofs.Common.{Some, None, refl, sym, ap, subst, ◌∙◌, append_assoc, length-append, inr, arith}
 use Rattle.std.specs.Prelude.{◌||◌, IsSomeAnd}
 use Rattle.std.proofs.lemmas.Bool.{false≢true}
 use Rattle.std.proofs.lemmas.List.{append-nil, length-take, take-append-drop, drop-drop}
@@ -8,7 +9,8 @@ use Rattle.ts_link.specs.Link.{Fewer, IsSure, IsSurePlan, Look, NoMore, Writes}
 use Rattle.ts_link.specs.LinkAnswers.{PutsSome, count_put, put_again, put_failed}
 use Rattle.ts_link.specs.declared.link.Put.{Put}
 use Rattle.ts_link.specs.declared.link.Put.TheVariants as P
-use Rattle.ts_upstream.specs.Uploads.{KeepsLink, Rose8, UploadCauses, UploadFalls, UploadKeeps, Uploads, UploadsSurely, both, taken_since}
+use Rattle.ts_upstream.specs.Uploads.{KeepsLink, Rose8, UploadCauses, UploadFalls, UploadKeeps, Uploads}
+use Rattle.ts_upstream.specs.Uploads.{UploadsSurely, both, taken_since}
 use Rattle.ts_upstream.specs.declared.upstream.Uploaded.{Uploaded}
 use Rattle.ts_upstream.specs.declared.upstream.Uploaded.TheVariants as U
 use Rattle.ts_intercept.specs.Limits.{most_held}

@@ -1,5 +1,6 @@
 -- An upload of a link that chooses is what the link to an origin promises.
-use Rattle.std.proofs.Common.{◌≡◌, ℕ, ◌+◌, ◌<◌, ◌≤◌, ◌++◌, List, [], length, drop, true, Bool, Option, Some, None, refl, sym, ap, subst, ◌∙◌, arith}
+use Rattle.std.proofs.Common.{◌≡◌, ℕ, ◌+◌, ◌<◌, ◌≤◌, ◌++◌, List, [], length, drop, true, Bool, Option, Some}
+use Rattle.std.proofs.Common.{None, refl, sym, ap, subst, ◌∙◌, arith}
 use Rattle.std.specs.Prelude.{◌≢◌, ◌||◌, is_some}
 use Rattle.std.proofs.lemmas.Bool.{false≢true}
 use Rattle.std.proofs.lemmas.List.{length-drop}
@@ -8,7 +9,8 @@ use Rattle.ts_link.specs.LinkAnswers.{count_put}
 use Rattle.ts_link.specs.declared.link.Link as link
 use Rattle.ts_link.specs.declared.link.Put.{Put}
 use Rattle.ts_link.specs.declared.link.Put.TheVariants as P
-use Rattle.ts_upstream.specs.Uploads.{Rose8, SameRefusal, StayPaired, UploadCauses, UploadFalls, UploadKeeps, Uploads, UploadsSurely, both, taken_since}
+use Rattle.ts_upstream.specs.Uploads.{Rose8, SameRefusal, StayPaired, UploadCauses, UploadFalls, UploadKeeps}
+use Rattle.ts_upstream.specs.Uploads.{Uploads, UploadsSurely, both, taken_since}
 use Rattle.ts_upstream.specs.declared.upstream.Upstream as upstream
 use Rattle.ts_upstream.specs.declared.upstream.Uploaded.{Uploaded}
 use Rattle.ts_upstream.specs.declared.upstream.Uploaded.TheVariants as U
@@ -17,12 +19,17 @@ use Rattle.ts_intercept.specs.Limits.{most_held}
 use Rattle.ts_intercept.specs.Moving.{Both}
 use Rattle.ts_intercept.specs.Seen.{inside, kept, lines_in, shown, unsent}
 use Rattle.ts_intercept.specs.Served.{longest}
-use Rattle.ts_intercept.specs.Uploading.{HasNoUpload, IsOneUpload, PairIf, PairsWith, RefusesNone, UploadsAs, is_done, left_if, none_to_move, one_upload, one_write, owed_by, sending}
+use Rattle.ts_intercept.specs.Uploading.{HasNoUpload, IsOneUpload, PairIf, PairsWith, RefusesNone, UploadsAs}
+use Rattle.ts_intercept.specs.Uploading.{is_done, left_if, none_to_move, one_upload, one_write, owed_by}
+use Rattle.ts_intercept.specs.Uploading.{sending}
 use Rattle.ts_intercept.specs.declared.choice.Choice.{Choice}
 use Rattle.ts_intercept.specs.declared.choice.Stage.{Stage}
 use Rattle.ts_intercept.specs.declared.choice.Stage.TheVariants as S
 use Rattle.ts_intercept.proofs.Looks.{no_more_same}
-use Rattle.ts_intercept.proofs.Moves.{moves_bytes, moves_causes, moves_falls, moves_keeps, moves_sure, not_done, nothing_bytes, nothing_causes, nothing_keeps, nothing_sure, one_text, sends_bytes, sends_causes, sends_falls, sends_keeps, sends_sure, went}
+use Rattle.ts_intercept.proofs.Moves.{moves_bytes, moves_causes, moves_falls, moves_keeps, moves_sure}
+use Rattle.ts_intercept.proofs.Moves.{not_done, nothing_bytes, nothing_causes, nothing_keeps, nothing_sure}
+use Rattle.ts_intercept.proofs.Moves.{one_text, sends_bytes, sends_causes, sends_falls, sends_keeps}
+use Rattle.ts_intercept.proofs.Moves.{sends_sure, went}
 
 owed_none : {O : Type 0} (stage : Stage) (origin : Option O) (waits : List ℕ) → HasNoUpload stage origin
     → owed_by stage origin waits ≡ []

@@ -9,3 +9,4 @@ pub mod Moving
 pub mod Going
 pub mod Uploading
 pub mod Answered
+pub mod Named

@@ -10,7 +10,6 @@ abbrev pub most_piece : ℕ
 most_piece = 4096
 
 -- what each byte that may still be held counts of the upload that is left: one more than the 8 that sending
--- it
--- may add
+-- it may add
 abbrev pub held_weight : ℕ
 held_weight = 9

@@ -1,5 +1,6 @@
 -- What the calls of a link that chooses do to it.
-use Rattle.std.specs.Prelude.{◌≡◌, ℕ, ◌+◌, ◌≤◌, ◌<◌, Bool, true, List, [], length, take, drop, min, Option, Some, None, ⊤}
+use Rattle.std.specs.Prelude.{◌≡◌, ℕ, ◌+◌, ◌≤◌, ◌<◌, Bool, true, List, [], length, take, drop, min, Option}
+use Rattle.std.specs.Prelude.{Some, None, ⊤}
 use Rattle.std.specs.Arc.{arc_value}
 use Rattle.ts_link.specs.Counts.{one_more}
 use Rattle.ts_link.specs.Link.{Calls, GivesMore, Look, ReadsSurely}
@@ -38,8 +39,7 @@ Both R (Some o) (Some p) = R o p
 
 module _ {O : Type 0} where
   -- A read of a link that a line serves: the next piece of the answer, and nothing else. Before a head is
-  -- whole
-  -- it comes too early.
+  -- whole it comes too early.
   abbrev pub ReadsBy : Stage → Choice O → Choice O → Got → List ℕ → Type 0
   ReadsBy S.Undecided c d answer into = d.early ≡ true
   ReadsBy S.HandedOn c d answer into = d.early ≡ c.early
@@ -52,8 +52,7 @@ module _ {O : Type 0} where
       c.stage ≡ S.Undecided → most_held < length c.held.items + length piece → answer ≡ P.NoMemory
 
   -- Calls of `Link` led from one to the other: the origin's were calls of `Link` too, the setup is the
-  -- same, and
-  -- nothing that was held was sent.
+  -- same, and nothing that was held was sent.
   pub record Goes (goes : O → O → Type 0) (c d : Choice O) : Type 0 where
     pub origin : Both goes c.origin d.origin
     pub handed : d.handed.value ≡ c.handed.value

@@ -69,8 +69,7 @@ plan_told None = None
 plan_told (Some plan) = unless_leaves plan.leave plan
 
 -- who answers, how long an answer may be, what was taken and not sent to the origin, its own calls, and
--- whether
--- it told that no upload is left: by these and what is seen of the origin is seen what it shows
+-- whether it told that no upload is left: by these and what is seen of the origin is seen what it shows
 abbrev pub shown : Stage → ℕ → List ℕ → ℕ → ℕ → Bool → Look → Look
 shown stage most kept reads writes uploaded l = record {
   given = given_by stage l.given;

@@ -1,6 +1,7 @@
 -- What a line of the configuration serves, and which line does (the Developer's Guide, "Intercepting HTTP
 -- Transactions": a plugin answers a request in place of the origin server).
-use Rattle.std.specs.Prelude.{ℕ, ◌+◌, Bool, List, [], ◌∷◌, ◌++◌, length, take, drop, replicate, max, Option, Some, None, codes}
+use Rattle.std.specs.Prelude.{ℕ, ◌+◌, Bool, List, [], ◌∷◌, ◌++◌, length, take, drop, replicate, max, Option}
+use Rattle.std.specs.Prelude.{Some, None, codes}
 use Rattle.std.specs.List.{find}
 use Rattle.std.specs.Str.{str_eq_ignore_ascii_case}
 use Rattle.http_header.specs.Token.{lowercase}
@@ -54,8 +55,8 @@ longest (line ∷ lines) = max (room_of line.kind) (longest lines)
 
 -- ---- which line serves
 
--- how the line of a head begins that names the host (RFC 9110, section 7.2), in lower case and behind the end of
--- the line before it
+-- how the line of a head begins that names the host (RFC 9110, section 7.2), in lower case and behind the
+-- end of the line before it
 abbrev pub host_start : List ℕ
 host_start = codes "\r\nhost:"
 

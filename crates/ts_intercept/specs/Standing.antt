@@ -1,5 +1,6 @@
 -- How a link that chooses stands between two calls.
-use Rattle.std.specs.Prelude.{◌≡◌, ℕ, ◌≤◌, Bool, true, false, List, [], ◌++◌, length, drop, Option, Some, None, is_some, ⊤}
+use Rattle.std.specs.Prelude.{◌≡◌, ℕ, ◌≤◌, Bool, true, false, List, [], ◌++◌, length, drop, Option, Some}
+use Rattle.std.specs.Prelude.{None, is_some, ⊤}
 use Rattle.std.specs.Arc.{arc_value}
 use Rattle.ts_config.specs.declared.setup.InterceptLine.{InterceptLine}
 use Rattle.ts_config.specs.declared.setup.Setup.{Setup}
@@ -39,8 +40,7 @@ module _ {O : Type 0} (tells : Bool) (look : O → Look) (lines : List Intercept
     pub serves : IsServed lines (held ++ gone) answer
 
   -- The origin is handed on to, and none of what it is to get was dropped. No line serves the host, unless
-  -- the
-  -- link was read before a head was whole.
+  -- the link was read before a head was whole.
   pub record StandsHandedOn (origin : Option O) (held : List ℕ) (sent : ℕ) (gone : List ℕ) (early : Bool) :
       Type 0 where
     pub none_lost : is_some origin ≡ true → gone ≡ []
@@ -53,8 +53,7 @@ module _ {O : Type 0} (tells : Bool) (look : O → Look) (lines : List Intercept
   StandsBy (S.Served answer given) = StandsServed answer.items given
 
   -- no more is held than may be, an origin is there if one was handed in, that one was not used, and who
-  -- answers
-  -- is what was written says
+  -- answers is what was written says
   pub record Stands (stage : Stage) (origin : Option O) (held : List ℕ) (sent : ℕ) (gone : List ℕ)
       (early : Bool) : Type 0 where
     pub few : length held ≤ most_held

@@ -1,14 +1,15 @@
 -- What an upload of a link that chooses does: first it sends what is held, and then the origin's own upload
--- is
--- moved.
-use Rattle.std.specs.Prelude.{◌≡◌, ◌≢◌, ℕ, ◌+◌, ◌-◌, ◌*◌, Bool, true, false, ◌||◌, List, [], Option, Some, None, ⊤}
+-- is moved.
+use Rattle.std.specs.Prelude.{◌≡◌, ◌≢◌, ℕ, ◌+◌, ◌-◌, ◌*◌, Bool, true, false, ◌||◌, List, [], Option, Some}
+use Rattle.std.specs.Prelude.{None, ⊤}
 use Rattle.std.specs.Option.{option_map}
 use Rattle.ts_link.specs.Link.{IsOneWrite, IsSure, Look}
 use Rattle.ts_link.specs.LinkAnswers.{count_put}
 use Rattle.ts_link.specs.declared.link.Put.{Put}
 use Rattle.ts_link.specs.declared.link.Put.TheVariants as P
 use Rattle.ts_link.specs.declared.link.Link as link
-use Rattle.ts_upstream.specs.Uploads.{StayPaired, UploadCauses, UploadFalls, UploadKeeps, Uploads, UploadsSurely, both}
+use Rattle.ts_upstream.specs.Uploads.{StayPaired, UploadCauses, UploadFalls, UploadKeeps, Uploads}
+use Rattle.ts_upstream.specs.Uploads.{UploadsSurely, both}
 use Rattle.ts_upstream.specs.declared.upstream.Upstream as upstream
 use Rattle.ts_upstream.specs.declared.upstream.Uploaded.{Uploaded}
 use Rattle.ts_upstream.specs.declared.upstream.Uploaded.TheVariants as U
@@ -86,8 +87,7 @@ module _ {O : Type 0} where
 
 module _ {C O : Type 0} (look : O → Look) (once : C → O → C → O → Uploaded → Type 0) where
   -- ONE UPLOAD led from these links to those, with this answer: it had nothing to move, or made one write
-  -- of what
-  -- is held, or one upload of the origin's.
+  -- of what is held, or one upload of the origin's.
   pub data IsOneUpload (c : C) (s : Choice O) (d : C) (t : Choice O) (answer : Uploaded) : Type 0 where
     none_to_move : HasNoUpload s.stage s.origin → d ≡ c → t ≡ record s { uploaded = true } → answer ≡ U.Done
         → IsOneUpload c s d t answer
@@ -100,8 +100,7 @@ module _ {C O : Type 0} (look : O → Look) (once : C → O → C → O → Uplo
         → IsOneUpload c s d t answer
 
 -- AN UPLOAD led from these links to those, with this answer, as the link to an origin promises it; and once
--- it is
--- done, nothing is held for the origin.
+-- it is done, nothing is held for the origin.
 module _ {C O : Type 0} (clients : link.Ghosts C) (origins : link.Ghosts O) (pair : upstream.Ghosts O C) where
   pub record UploadsAs (c : C) (s : Choice O) (d : C) (t : Choice O) (answer : Uploaded) : Type 0 where
     pub paired : StayPaired clients.still (IsStill origins.still) (Pairs pair.paired pair.refuses) RefusesNone

@@ -20,8 +20,10 @@ mod chosen;
 mod deciding;
 mod gone;
 mod host;
+mod laws;
 mod reading;
 mod uploading;
 mod writing;
 
 pub use chosen::Chosen;
+pub use laws::named_hosts;

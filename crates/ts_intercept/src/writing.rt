@@ -1,5 +1,6 @@
 //! Writes to a link that chooses.
-ghost use Rattle.std.specs.Prelude.{◌≡◌, ◌+◌, ◌<◌, ◌≤◌, ◌++◌, length, is_some, true, IfOk, IsErr, OnErr, OnOk};
+ghost use Rattle.std.specs.Prelude.{◌≡◌, ◌+◌, ◌<◌, ◌≤◌, ◌++◌, length, is_some, true, IfOk, IsErr, OnErr};
+ghost use Rattle.std.specs.Prelude.{OnOk};
 ghost use Rattle.ts_link.specs.Link.{Writes};
 ghost use Rattle.ts_link.specs.LinkAnswers.{writes_after};
 ghost use Rattle.ts_intercept.specs.Deciding.{Decides, HasRoom};

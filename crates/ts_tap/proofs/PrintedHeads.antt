@@ -1,5 +1,7 @@
 -- What the heads that are printed say of the way in which their body is sent.
-use Rattle.std.proofs.Common.{◌≡◌, ℕ, ◌-◌, ◌<◌, Bool, true, false, List, [], ◌∷◌, ◌++◌, Option, Some, None, length, get_or, zero, suc, refl, sym, ap, subst, ◌∙◌, arith, append_assoc, length-append, codes, decimal}
+use Rattle.std.proofs.Common.{◌≡◌, ℕ, ◌-◌, ◌<◌, Bool, true, false, List, [], ◌∷◌, ◌++◌, Option, Some, None}
+use Rattle.std.proofs.Common.{length, get_or, zero, suc, refl, sym, ap, subst, ◌∙◌, arith, append_assoc}
+use Rattle.std.proofs.Common.{length-append, codes, decimal}
 use Rattle.std.specs.Prelude.{◌==◌, if◌then◌else◌}
 use Rattle.std.specs.Char.{digit_value}
 use Rattle.std.specs.Str.Parse.{AllDigits}
@@ -10,7 +12,8 @@ use Rattle.ts_wire.specs.declared.fields.Field.{Field}
 use Rattle.ts_wire.specs.declared.printed.ClientFraming.{ClientFraming}
 use Rattle.ts_wire.specs.declared.printed.ClientFraming.TheVariants as C
 use Rattle.ts_wire.specs.Limits.{word_limit}
-use Rattle.ts_wire.specs.Printed.{client_text, field_text, fields_text, framing_line, reason_text, status_text, via_line}
+use Rattle.ts_wire.specs.Printed.{client_text, field_text, fields_text, framing_line, reason_text}
+use Rattle.ts_wire.specs.Printed.{status_text, via_line}
 use Rattle.ts_tap.specs.SentBody.{EndsWith, PrintedHeadsSay, SaysChunked, chunked_end}
 
 -- ---- the lines before the framing line

@@ -1,5 +1,6 @@
 -- What a reader of what a client takes says of the bytes that it saw, step by step.
-use Rattle.std.proofs.Common.{◌≡◌, ◌≢◌, ℕ, ◌-◌, ◌<◌, ◌≤◌, List, [], ◌++◌, length, take, drop, slice_range, ⊎_elim, refl, sym, ap, subst, ◌∙◌, arith, append_assoc, take-append-drop}
+use Rattle.std.proofs.Common.{◌≡◌, ◌≢◌, ℕ, ◌-◌, ◌<◌, ◌≤◌, List, [], ◌++◌, length, take, drop, slice_range}
+use Rattle.std.proofs.Common.{⊎_elim, refl, sym, ap, subst, ◌∙◌, arith, append_assoc, take-append-drop}
 use Rattle.std.proofs.lemmas.List.{append-nil, drop_all, length-take}
 use Rattle.ts_wire.specs.declared.framing.Framing.TheVariants as F
 use Rattle.ts_wire.specs.declared.body.BodyState.{BodyState}
@@ -10,7 +11,8 @@ use Rattle.ts_wire.specs.Place.{Place, GoesOn, IsFed, TakesBytes, state_of}
 use Rattle.ts_wire.proofs.PlaceBody.{place_body}
 use Rattle.ts_tap.specs.declared.sent_reader.Part.{Part}
 use Rattle.ts_tap.specs.declared.sent_reader.Part.TheVariants as P
-use Rattle.ts_tap.specs.Sending.{FollowsEnd, HasSeen, InChunks, InHead, IsOneLine, IsTail, SeenIn, SeesFront, SeesOn, Sent, passed_by}
+use Rattle.ts_tap.specs.Sending.{FollowsEnd, HasSeen, InChunks, InHead, IsOneLine, IsTail, SeenIn, SeesFront}
+use Rattle.ts_tap.specs.Sending.{SeesOn, Sent, passed_by}
 use Rattle.ts_tap.specs.SentBody.{IsSentBody, chunked_end, in_head, plain, chunked}
 use Rattle.ts_tap.proofs.HeadEnds.{line_ends, line_lacks}
 use Rattle.ts_tap.proofs.Tails.{ends_tail, ends_text}

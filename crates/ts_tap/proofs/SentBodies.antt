@@ -1,5 +1,7 @@
 -- The laws on the body data of a response.
-use Rattle.std.proofs.Common.{◌≡◌, ℕ, ◌+◌, ◌-◌, ◌<◌, ◌≤◌, Bool, true, false, List, [], ◌∷◌, ◌++◌, length, take, drop, ⊎_elim, refl, sym, ap, subst, ◌∙◌, arith, append_assoc, length-append, take-append-drop}
+use Rattle.std.proofs.Common.{◌≡◌, ℕ, ◌+◌, ◌-◌, ◌<◌, ◌≤◌, Bool, true, false, List, [], ◌∷◌, ◌++◌, length}
+use Rattle.std.proofs.Common.{take, drop, ⊎_elim, refl, sym, ap, subst, ◌∙◌, arith, append_assoc}
+use Rattle.std.proofs.Common.{length-append, take-append-drop}
 use Rattle.std.specs.Prelude.{All, flat_map, if◌then◌else◌}
 use Rattle.std.proofs.lemmas.List.{append-nil, take_all, take_at, drop_at, take-append-le, drop-append-le}
 use Rattle.httparse.specs.Ascii.{crlf_bytes}
@@ -13,7 +15,8 @@ use Rattle.ts_wire.specs.Frames.{IsPiece, chunk_text, content_in, cut_body, end_
 use Rattle.ts_wire.specs.Limits.{body_limit}
 use Rattle.ts_wire.proofs.FrameFronts.{reads_fronts}
 use Rattle.ts_wire.proofs.OneBody.{one_body}
-use Rattle.ts_tap.specs.SentBody.{HasOneSentBody, IsSentBody, IsSentHead, SaysChunked, SentBodyIsFront, SentBodyIsWhole, in_head, plain, chunked}
+use Rattle.ts_tap.specs.SentBody.{HasOneSentBody, IsSentBody, IsSentHead, SaysChunked, SentBodyIsFront}
+use Rattle.ts_tap.specs.SentBody.{SentBodyIsWhole, in_head, plain, chunked}
 use Rattle.ts_tap.proofs.HeadEnds.{le_or_lt, occurs_in_front, occurs_last, occurs_with_rest}
 
 -- ---- one head

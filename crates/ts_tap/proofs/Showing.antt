@@ -1,11 +1,13 @@
 -- What a watcher was shown, and what it left, offer by offer.
-use Rattle.std.proofs.Common.{◌≡◌, ℕ, ◌<◌, ◌≤◌, Bool, true, false, List, [], ◌++◌, length, take, drop, inl, inr, ⊎_elim, refl, sym, ap, subst, ◌∙◌, arith, append_assoc, take-append-drop}
+use Rattle.std.proofs.Common.{◌≡◌, ℕ, ◌<◌, ◌≤◌, Bool, true, false, List, [], ◌++◌, length, take, drop, inl}
+use Rattle.std.proofs.Common.{inr, ⊎_elim, refl, sym, ap, subst, ◌∙◌, arith, append_assoc, take-append-drop}
 use Rattle.std.specs.Prelude.{if◌then◌else◌}
 use Rattle.std.proofs.lemmas.List.{append-nil}
 use Rattle.ts_link.specs.Counts.{Rose}
 use Rattle.ts_tap.specs.Sending.{Sent, HasSeen, SeesOn}
 use Rattle.ts_tap.specs.Taps.{HasTapped, IsTapping, TapsOn}
-use Rattle.ts_tap.specs.Watching.{CountsLeft, CountsMore, IsCounted, IsShown, KeepsLeft, LeavesSome, Offers, ShowsOn, Watching}
+use Rattle.ts_tap.specs.Watching.{CountsLeft, CountsMore, IsCounted, IsShown, KeepsLeft, LeavesSome, Offers}
+use Rattle.ts_tap.specs.Watching.{ShowsOn, Watching}
 use Rattle.ts_tap.proofs.Seeing.{seen_body}
 
 -- what waits of a watcher of which nothing was lost is all that it left
@@ -117,7 +119,7 @@ module _ {W : Type 0} (Took : W → List ℕ → Type 0) (lefts : W → ℕ) whe
   -- and what was tapped is what it says at its end
   pub tapped_whole : (taken : List ℕ) (s : Sent) (w x : Watching W) → IsTapping Took taken s w
       → IsCounted lefts w → ShowsOn Took w [] x → CountsLeft lefts w x → x.lost ≡ w.lost
-      → HasTapped Took lefts taken w.lost x.watcher
+      → HasTapped Took lefts taken w x.watcher
   tapped_whole taken s w x tap counted shows counts same =
       let shown : IsShown Took tap.body x =
       subst (λ (l : List ℕ). IsShown Took l x) (append-nil tap.body) (shows tap.body tap.shown) in
@@ -130,6 +132,10 @@ module _ {W : Type 0} (Took : W → List ℕ → Type 0) (lefts : W → ℕ) whe
         left = shown.left;
         whole = shown.whole;
         limit = sym same ∙ shown.lost;
+        offered = λ some. ⊎_elim
+            (λ (waits : 0 < length x.waits). inr (counts.waits waits))
+            (λ (lost : x.lost ≡ true). inl (sym same ∙ lost))
+            (leaves x.lost refl shown some);
         counted = λ some. told (leaves x.lost refl shown some);
       }
     where

@@ -1,5 +1,6 @@
 -- The loop over what a client took, offer by offer.
-use Rattle.std.proofs.Common.{◌≡◌, ℕ, ◌+◌, ◌≤◌, List, ◌++◌, length, sym, ap, ◌∙◌, arith, append_assoc, length-append}
+use Rattle.std.proofs.Common.{◌≡◌, ℕ, ◌+◌, ◌≤◌, List, ◌++◌, length, sym, ap, ◌∙◌, arith, append_assoc}
+use Rattle.std.proofs.Common.{length-append}
 use Rattle.ts_tap.specs.declared.watch.Watch.{Watch}
 use Rattle.ts_tap.specs.Sending.{SeesFront, Sent}
 use Rattle.ts_tap.specs.Taps.{HasRoom, TapsOn, watching_of}

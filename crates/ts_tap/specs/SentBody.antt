@@ -1,6 +1,7 @@
 -- The body data of a response, by the bytes that a client took of it (RFC 9112, sections 2.1, 6.3 and 7.1):
 -- the head ends with the first empty line, and where its last lines say so the body comes in chunks.
-use Rattle.std.specs.Prelude.{◌≡◌, ℕ, ◌-◌, ◌<◌, ◌≤◌, List, [], ◌++◌, All, length, Bool, true, Option, Some, codes}
+use Rattle.std.specs.Prelude.{◌≡◌, ℕ, ◌-◌, ◌<◌, ◌≤◌, List, [], ◌++◌, All, length, Bool, true, Option, Some}
+use Rattle.std.specs.Prelude.{codes}
 use Rattle.ts_wire.specs.declared.fields.Field.{Field}
 use Rattle.ts_wire.specs.declared.framing.Framing.TheVariants as F
 use Rattle.ts_wire.specs.declared.printed.ClientFraming.{ClientFraming}

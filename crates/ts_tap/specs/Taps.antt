@@ -1,5 +1,7 @@
 -- A tap: a client's link, and a watcher that is offered the body data which the client took.
-use Rattle.std.specs.Prelude.{◌≡◌, ℕ, ◌+◌, ◌<◌, ◌≤◌, List, ◌++◌, length, min, vec_capacity, vec_len, Bool, false, nat_lt}
+use Rattle.std.specs.Prelude.{◌≡◌, ℕ, ◌+◌, ◌<◌, ◌≤◌, ◌⊎◌, List, ◌++◌, length, min, vec_capacity, vec_len}
+use Rattle.std.specs.Prelude.{true, false, nat_lt}
+use Rattle.ts_link.specs.Counts.{Rose}
 use Rattle.ts_link.specs.declared.link.Put.{Put}
 use Rattle.ts_link.specs.declared.link.Put.TheVariants as P
 use Rattle.ts_tap.specs.declared.watch.TheConstants.{MOST_UNREAD}
@@ -42,15 +44,17 @@ abbrev pub CountsPut : {W : Type 0} → (W → ℕ) → Put → Watching W → W
 CountsPut lefts P.NoMemory old new = new ≡ old
 CountsPut lefts _ old new = CountsLeft lefts old new
 
--- A TAP at its end: of the body data of what the client took the watcher took a front, and left what follows.
--- It is lost exactly where that is more than may wait, and the watcher's count tells that something was left.
-pub record HasTapped {W : Type 0} (Took : W → List ℕ → Type 0) (lefts : W → ℕ) (taken : List ℕ) (lost : Bool)
-    (watcher : W) : Type 0 where
+-- A TAP at its end, where what waited was offered once more: of the body data of what the client took the
+-- watcher took a front, and left what follows. The tap is lost exactly where that is more than may wait. Else
+-- something is left only where that last offer was not taken whole either, and the watcher's count tells so.
+pub record HasTapped {W : Type 0} (Took : W → List ℕ → Type 0) (lefts : W → ℕ) (taken : List ℕ)
+    (old : Watching W) (watcher : W) : Type 0 where
   pub body : List ℕ
   pub is_body : IsSentBody taken body
   pub took : List ℕ
   pub is : Took watcher took
   pub left : List ℕ
   pub whole : body ≡ took ++ left
-  pub limit : lost ≡ nat_lt MOST_UNREAD (length left)
+  pub limit : old.lost ≡ nat_lt MOST_UNREAD (length left)
+  pub offered : 0 < length left → (old.lost ≡ true) ⊎ Rose (lefts old.watcher) (lefts watcher)
   pub counted : 0 < length left → 0 < lefts watcher

@@ -1,5 +1,6 @@
 -- Who watches bytes that are offered to it, and what it leaves of them.
-use Rattle.std.specs.Prelude.{◌≡◌, ℕ, ◌<◌, ◌≤◌, ◌⊎◌, List, [], ◌++◌, length, take, Bool, true, false, if◌then◌else◌, nat_lt}
+use Rattle.std.specs.Prelude.{◌≡◌, ℕ, ◌<◌, ◌≤◌, ◌⊎◌, List, [], ◌++◌, length, take, Bool, true, false}
+use Rattle.std.specs.Prelude.{if◌then◌else◌, nat_lt}
 use Rattle.ts_link.specs.Counts.{Rose}
 use Rattle.ts_tap.specs.declared.watch.TheConstants.{MOST_UNREAD}
 

@@ -1,5 +1,6 @@
 //! Finds the body data in what a client takes.
-ghost use Rattle.std.specs.Prelude.{◌≡◌, ◌+◌, ◌<◌, ◌≤◌, ◌++◌, List, ℕ, [], length, take, drop, true, IfOk, vec_capacity, vec_len};
+ghost use Rattle.std.specs.Prelude.{◌≡◌, ◌+◌, ◌<◌, ◌≤◌, ◌++◌, List, ℕ, [], length, take, drop, true, IfOk};
+ghost use Rattle.std.specs.Prelude.{vec_capacity, vec_len};
 ghost use Rattle.ts_tap.specs.Sending.{FollowsEnd, HasSeen, IsOneLine, IsTail, SeesFront, passed_by};
 ghost use Rattle.ts_tap.specs.SentBody.{EndsWith};
 

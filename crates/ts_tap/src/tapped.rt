@@ -118,7 +118,7 @@ impl<C: Link + Drop, W: Watcher + Drop> Tapped<C, W> {
         ensures goes { W.goes self.watch.watcher result.1 }
         ensures counted { IsCounted W.lefts self.watch }
         ensures tapped { C.tells ≡ true → HasTapped W.took W.lefts
-            (C.look self.client).taken self.watch.lost result.1 }
+            (C.look self.client).taken self.watch result.1 }
     {
         let mut watch = self.watch;
         watch.offer_waits();

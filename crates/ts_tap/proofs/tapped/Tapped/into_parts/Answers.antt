@@ -10,7 +10,7 @@ returns-clause-tapped g c tells =
     let x = c.offer_waits.new.self in
     subst
     (λ (v : Tap g.row.C.Denot g.row.W.Denot). HasTapped g.W.Watcher.took g.W.Watcher.lefts
-    (g.C.Link.look v.client).taken v.watch.lost x.watcher)
+    (g.C.Link.look v.client).taken v.watch x.watcher)
     c.self.view_is
     (tapped_whole g.W.Watcher.took g.W.Watcher.lefts (g.C.Link.look t.client).taken t.sent
     (watching_of t.watch) (watching_of x) (c.self.invariant.1 tells) c.self.invariant.0
