@@ -6,7 +6,7 @@ ghost use Rattle.ts_txn.specs.Net.{IsHandedNothing, IsNoted, NetSeen, raised_by_
 ghost use Rattle.ts_txn.specs.Net.{raised_by_dial};
 
 use crate::retired::{Noted, Retired};
-use ts_link::{Link, NoMemory};
+use ts_link::{NoMemory, Sourced};
 use ts_upstream::Upstream;
 
 /// What comes of beginning to listen.
@@ -47,11 +47,12 @@ pub struct NetCounts {
     pub ends: u64,
 }
 
-/// Gives clients and origins, and takes what is left of their transactions.
+/// Gives clients and origins, and takes what is left of their transactions. What a client gave and may still
+/// give is its source, so that of a request's body that went to an origin it is known what the client sent.
 pub trait Net {
     ghost use Rattle.ts_txn.specs.declared.net.Began.{Began};
 
-    type Client: Link + Drop + Send;
+    type Client: Sourced + Drop + Send;
 
     type Origin: Upstream<Self::Client> + Drop + Send;
 
