@@ -4,7 +4,7 @@ use Rattle.std.proofs.Common.{◌≡◌, ◌≢◌, ℕ, zero, suc, ◌+◌, ◌
 use Rattle.std.proofs.Common.{length-append, map, true, false, refl, sym, ap, subst, ◌∙◌, arith}
 use mathlib.Core.Option.{some}
 use lib.ListN.{get_elem?}
-use Rattle.std.specs.Prelude.{IsSome, Option, Some, slice_get, ⊤}
+use Rattle.std.specs.Prelude.{IsSome, None, Option, Some, slice_get, ⊤}
 use Rattle.std.specs.List.{AllZip}
 use Rattle.std.proofs.lemmas.List.{length-map}
 use Rattle.std.proofs.lemmas.Option.{same_Some}
@@ -24,7 +24,18 @@ use Rattle.ts_record.specs.Grammar.{TxnPieces}
 use Rattle.ts_record.specs.declared.recording.TheConstants.{MOST_TXNS}
 use Rattle.ts_replay.specs.Members.{HookPlugin, members, numbered}
 use Rattle.ts_replay.specs.Recorded.{FitsIn, HasPlainLines, IsNewTagOf, IsOfRowTag, IsOfTag, Recorded}
-use Rattle.ts_replay.specs.Recorded.{RecordedTag, RowGroup, RowTag, RowWorld}
+use Rattle.ts_replay.specs.Recorded.{RecordedCarrier, RecordedFront, RecordedTag, RowGroup, RowTag, RowWorld}
+use Rattle.ts_replay.specs.Recorded.{layered_client, layered_link, layered_origin}
+use Rattle.ts_stock.specs.StockTransform.{stock_transform}
+use Rattle.ts_stock.specs.declared.stock.State.{State as StockState}
+use Rattle.ts_upstream.specs.Uploads.{both}
+use Rattle.ts_phases.specs.View.{side_if, upload_told}
+use Rattle.ts_phases.specs.declared.parts.Core.{Core}
+use Rattle.ts_phases.specs.declared.parts.Peer.{Peer}
+use Rattle.ts_journal.specs.declared.entry.Pending.{Pending}
+use Rattle.ts_txn.specs.LoweringCourse.{transaction_left}
+use Rattle.ts_txn.specs.declared.course.Course.{Course}
+use Rattle.ts_txn.proofs.Telling.{tells}
 use Rattle.ts_exchange.specs.Rows.{is_asked_only}
 use Rattle.ts_replay.specs.Rows.{AreGroupsOf}
 use Rattle.ts_txn.specs.declared.making.TheConstants.{MOST_GROUPS}
@@ -74,6 +85,25 @@ row_starts setup txns tags starts are all k low =
     starts_at setup (length txns) 1 setup.plugins.items txns tags are k (omega (arith, all, low))
 
 -- ---- what is left to do
+
+-- two recorded sides with their layers tell how many Again answers they have left, and how much upload
+layers_again : (c : RecordedFront) (o : Option (Peer RecordedCarrier))
+    → IsSome (both (layered_client.look c).agains (side_if layered_link.look o).look.agains)
+layers_again c None = refl
+layers_again c (Some p) = refl
+
+layers_upload : (c : RecordedFront) (o : Option (Peer RecordedCarrier))
+    → IsSome (upload_told layered_origin.upload_left c o)
+layers_upload c None = refl
+layers_upload c (Some p) = refl
+
+-- so a transaction between them tells what it has left to do
+pub layers_tell : (core : Core RecordedFront RecordedCarrier) (course : Course StockState)
+    (pending : List Pending)
+    → IsSome (transaction_left layered_client layered_link layered_origin stock_transform core course pending)
+layers_tell core course pending =
+    tells layered_client layered_link layered_origin stock_transform core course pending refl refl
+    (layers_again core.client.link core.origin) (layers_upload core.client.link core.origin)
 
 -- where a transaction tells it, each world of the row does
 pub row_tells : (left : Recorded → State → Option ℕ) (s : State) → ((t : Recorded) → IsSome (left t s))
@@ -152,8 +182,10 @@ module _ (setup : Setup) (at : ℕ) where
       let same : u ≡ t = cc in
       record {
         below = omega arith;
-        setup_is = ap (λ (v : RecordedTag). v.setup.value) (sym same) ∙ are.0.between.setup_is;
-        plugins_at = ap (λ (v : RecordedTag). v.plugins_at) (sym same) ∙ are.0.between.plugins_are;
+        setup_is = ap (λ (v : RecordedTag). v.setup.value) (sym same) ∙ are.0.between.tag_is.setup_is
+            ∙ are.0.between.over.setup;
+        plugins_at = ap (λ (v : RecordedTag). v.plugins_at) (sym same) ∙ are.0.between.tag_is.plugins_are
+            ∙ are.0.between.over.plugins_at;
       }
   txn_tag from lines (txn ∷ txns) (kind.One u ∷ tags) are (suc k) t there =
       let on = txn_tag (from + 1) lines txns tags are.1 k t there in

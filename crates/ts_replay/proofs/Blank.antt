@@ -1,5 +1,6 @@
 -- The head in front of some bytes ends with the first empty line in them (RFC 9112, section 2.1).
-use Rattle.std.proofs.Common.{◌≡◌, Some, ⊎_elim, ℕ, ◌+◌, ◌<◌, ◌≤◌, List, ◌++◌, take, drop, length, refl, sym, ap, ◌∙◌}
+use Rattle.std.proofs.Common.{◌≡◌, Some, ⊎_elim, ℕ, ◌+◌, ◌<◌, ◌≤◌, List, ◌++◌, take, drop, length, refl}
+use Rattle.std.proofs.Common.{sym, ap, ◌∙◌}
 use Rattle.std.proofs.Common.{arith, append_assoc, length-append}
 use Rattle.std.proofs.lemmas.Bool.{cases_lt}
 use Rattle.std.proofs.lemmas.List.{length-drop, take_at, drop_at, take-append-le, drop-append-le}
@@ -48,6 +49,13 @@ module _ (bytes head behind : List ℕ) (is : bytes ≡ head ++ behind) (h : End
   head_up_to place first =
       let at = only_place place first in
       ap (take (place + 4)) is ∙ take_at head behind (place + 4) (omega (arith, at, head_length))
+
+  -- and behind it stands the rest
+  pub rest_from : (place : ℕ) → IsFirst (OccursAt bytes blank_end) 0 (length bytes + 1) (Some place)
+      → drop (place + 4) bytes ≡ behind
+  rest_from place first =
+      let at = only_place place first in
+      ap (drop (place + 4)) is ∙ drop_at head behind (place + 4) (omega (arith, at, head_length))
 
   -- there is one
   pub some_blank : Nowhere (OccursAt bytes blank_end) 0 (length bytes + 1) → ⊥

@@ -24,7 +24,7 @@ use Rattle.ts_replay.specs.Exchanged.{IsRunBetween}
 use Rattle.ts_replay.specs.Members.{HookPlugin, Member, members, numbered}
 use Rattle.ts_replay.specs.Recorded.{FitInRow, FitsIn, HasPlainLines, HasRowBegun, IsNewTagOf, IsOfRowTag}
 use Rattle.ts_replay.specs.Recorded.{IsOfTag, IsSoundRow, IsTagOf, Recorded, RecordedTag, RowGroup, RowTag}
-use Rattle.ts_replay.specs.Recorded.{RowWorld, recorded_ends, recorded_promise}
+use Rattle.ts_replay.specs.Recorded.{RowWorld, layered_client, layered_link, recorded_ends, recorded_promise}
 use Rattle.ts_exchange.specs.Rows.{is_asked_only, is_first}
 use Rattle.ts_replay.specs.Replayed.{AreDone, HasRestedAs, HasRunAs, IsDoneAs}
 use Rattle.ts_replay.specs.Reports.{sides_of}
@@ -35,7 +35,6 @@ use Rattle.ts_thread.specs.Started.{IsFirst, WasStarted}
 use Rattle.ts_thread.specs.Threads.{HasHadTurns, turns_of}
 use Rattle.ts_thread.specs.Whole.{HaveEnded}
 use Rattle.ts_thread.proofs.Known.{end_fits, found_fits}
-use Rattle.ts_upstream.specs.InMemory.{memory_link}
 use Rattle.ts_txn.proofs.Fitting.{fits_begun}
 
 -- ---- it was started
@@ -48,7 +47,7 @@ later_turns a b s t none (inr (same, later)) = later.turns
 -- a transaction that began fits the tag that says that it was started
 begun_fits : (tag : RecordedTag) (old new : RowWorld) → IsOfRowTag (kind.One tag) old → HasRowBegun old new
     → IsOfRowTag (kind.One (record tag { started = true })) new
-begun_fits tag (One t) (One u) fits begun = fits_begun memory_link memory_link tag t u begun fits
+begun_fits tag (One t) (One u) fits begun = fits_begun layered_client layered_link tag t u begun fits
 begun_fits tag (One t) (Other p) fits begun = absurd begun
 begun_fits tag (Other p) new fits begun = absurd fits
 
@@ -129,20 +128,24 @@ module _ (setup : Setup) (at most : ℕ) (lines : HasPlainLines setup)
         tag = record tag { started = true };
         tag_is = record {
           between = record {
-            number_is = is.between.number_is;
-            setup_is = is.between.setup_is;
-            plugins_are = is.between.plugins_are;
-            client_is = is.between.client_is;
-            origin_is = is.between.origin_is;
-            sure_is = is.between.sure_is;
-            first_is = is.between.first_is;
-            started_is = refl;
+            layered = is.between.layered;
+            over = is.between.over;
+            tag_is = record {
+              number_is = is.between.tag_is.number_is;
+              setup_is = is.between.tag_is.setup_is;
+              plugins_are = is.between.tag_is.plugins_are;
+              client_is = is.between.tag_is.client_is;
+              origin_is = is.between.tag_is.origin_is;
+              sure_is = is.between.tag_is.sure_is;
+              first_is = is.between.tag_is.first_is;
+              started_is = refl;
+            };
           };
           takes_some = is.takes_some;
         };
         fits = w.fits;
         sound = subst (λ v. IsSoundRow v g.cx.log.state g.cx.roles) w.is_txn fits.1;
-        began = OnTrue_at is.between.first_is fits.3;
+        began = OnTrue_at is.between.tag_is.first_is fits.3;
         turned = goes.turned;
         idle = idle;
         given = fits.2.0;
@@ -176,7 +179,7 @@ module _ (setup : Setup) (at most : ℕ) (lines : HasPlainLines setup)
   each_done from starts ls (txn ∷ txns) (kind.One tag ∷ tags) [] all are fit idle few goes = absurd fit
   each_done from starts ls (txn ∷ txns) (kind.One tag ∷ tags) (g ∷ gs) all are fit idle few goes = (
     has_run from txn tag g are.0 fit.0 (All-head IsIdle g gs idle) (All-head (HasHadTurns most) g gs few)
-        (goes 0 tag g (omega (arith, all)) refl refl are.0.between.first_is fit.0),
+        (goes 0 tag g (omega (arith, all)) refl refl are.0.between.tag_is.first_is fit.0),
     each_done (from + 1) (length txns) ls txns tags gs refl are.1 fit.1 (All-tail IsIdle g gs idle)
         (All-tail (HasHadTurns most) g gs few)
         (λ k t h below. goes (suc k) t h (omega (arith, all, below))),
@@ -234,11 +237,15 @@ run_between setup at number txn g ran = record {
   idle = ran.idle;
   numbers = ran.numbers;
   between = record {
-    promise = recorded_promise;
-    tag = ran.tag;
-    tag_is = ran.tag_is.between;
-    fits = ran.fits;
-    roles = g.cx.roles;
-    sound = ran.sound;
+    layered = ran.tag_is.between.layered;
+    over = ran.tag_is.between.over;
+    between = record {
+      promise = recorded_promise;
+      tag = ran.tag;
+      tag_is = ran.tag_is.between.tag_is;
+      fits = ran.fits;
+      roles = g.cx.roles;
+      sound = ran.sound;
+    };
   };
 }

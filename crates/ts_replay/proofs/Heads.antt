@@ -1,8 +1,9 @@
 -- The heads that a transaction sends are those of its block, and all bytes of both sides have at most one
 -- pair of them.
-use Rattle.std.proofs.Common.{◌≡◌, ◌∙◌, ℕ, List, Result, true, false, Ok, inl, inr, sym, ap, subst}
+use Rattle.std.proofs.Common.{◌≡◌, ◌∙◌, ℕ, List, Result, true, Ok, inl, inr, sym, ap, subst}
 use Rattle.ts_block.specs.Block.{AnswerSays, BodySays, DenySays, DialSays, IsBlock, IsGood, LacksAnswer}
-use Rattle.ts_block.specs.Block.{VerdictSays, asked, bad, bad_status, cut, early, ended, faulty, lacking, no_final}
+use Rattle.ts_block.specs.Block.{VerdictSays, asked, bad, bad_status, cut, early, ended, faulty, lacking}
+use Rattle.ts_block.specs.Block.{no_final}
 use Rattle.ts_block.specs.Block.{no_head, relayed_head, request_text, silent}
 use Rattle.ts_block.specs.Block as block
 use Rattle.ts_block.specs.Heads.{FinalHead, is_refused_status}
@@ -14,6 +15,7 @@ use Rattle.ts_config.specs.declared.setup.Setup.{Setup}
 use Rattle.ts_phases.specs.Facts.{Goes}
 use Rattle.ts_phases.specs.declared.phase.Request.{Request}
 use Rattle.ts_replay.specs.Heads.{AreHeadsOfBlock, SendsHeads, decided, passed_on}
+use Rattle.ts_request.specs.Sent.{RefusesUpload}
 use Rattle.ts_wire.specs.Check.{check}
 use Rattle.ts_wire.specs.declared.framing.Framing.TheVariants as F
 use Rattle.ts_wire.specs.declared.heads.RequestHead.{RequestHead}
@@ -33,7 +35,7 @@ lacks_good q o h rest (faulty k s other is) final good =
     let same = one_final o k h s rest other final in
     good.framing (subst (λ (x : ResponseHead). framing_of q x ≡ F.Faulty) same.0 is)
 
-module _ (setup : Setup) (c o : List ℕ) (b : Block) where
+module _ (setup : Setup) (refused : Type 0) (c o : List ℕ) (b : Block) where
   body_heads : (request : List ℕ) (q : RequestHead) (h : ResponseHead) (rest : List ℕ)
       → BodySays setup request q h rest b → (request ≡ b.request) × (relayed_head setup q h ≡ b.head)
   body_heads request q h rest (ended body over is) =
@@ -46,7 +48,7 @@ module _ (setup : Setup) (c o : List ℕ) (b : Block) where
       (sym (ap (λ (x : Block). x.request) is), sym (ap (λ (x : Block). x.head) is))
 
   module _ (q : Request) (h : ResponseHead) (rest : List ℕ) (goes : Goes setup c q true)
-      (final : FinalHead o h rest) (good : IsGood q.head h) where
+      (accepts : refused → ⊥) (final : FinalHead o h rest) (good : IsGood q.head h) where
     -- the request of the block, and its head
     abbrev HasHeads : List ℕ → Type 0
     HasHeads request = (request ≡ b.request) × (relayed_head setup q.head h ≡ b.head)
@@ -58,13 +60,11 @@ module _ (setup : Setup) (c o : List ℕ) (b : Block) where
         subst (λ (x : ResponseHead). (request ≡ b.request) × (relayed_head setup q.head x ≡ b.head)) same.0
         (body_heads request q.head k s says)
 
-    dial_heads : (request : List ℕ) → DialSays setup true (false ≡ true) o true request q.head b
-        → HasHeads request
-    dial_heads request (inl (refused, is)) = absurd (cc)
+    dial_heads : (request : List ℕ) → DialSays setup true refused o true request q.head b → HasHeads request
+    dial_heads request (inl (refuses, is)) = absurd (accepts refuses)
     dial_heads request (inr (takes, says)) = answer_heads request says
 
-    block_heads : IsBlock setup true (false ≡ true) o c b
-        → HasHeads (request_text setup q.head q.target q.host)
+    block_heads : IsBlock setup true refused o c b → HasHeads (request_text setup q.head q.target q.host)
     block_heads (silent none is) = absurd (goes.knows.some none)
     block_heads (no_head some lacks is) =
         absurd (lacks goes.knows.reads.parsed goes.knows.rest goes.knows.reads.begins)
@@ -72,17 +72,24 @@ module _ (setup : Setup) (c o : List ℕ) (b : Block) where
         let same = one_request c p q.head s goes.knows.rest had goes.knows.reads in
         let request = request_text setup q.head q.target q.host in
         dial_heads request
-        (subst (λ d. DenySays setup true (false ≡ true) o d request q.head b) goes.allowed
-        (subst (λ r. VerdictSays setup true (false ≡ true) o r q.head b) goes.knows.passes
-        (subst (λ (t : RequestHead). VerdictSays setup true (false ≡ true) o (check t) t b) same.0 says)))
+        (subst (λ d. DenySays setup true refused o d request q.head b) goes.allowed
+        (subst (λ r. VerdictSays setup true refused o r q.head b) goes.knows.passes
+        (subst (λ (t : RequestHead). VerdictSays setup true refused o (check t) t b) same.0 says)))
+
+module _ (setup : Setup) (refused : Type 0) (c o : List ℕ) where
+  -- whatever it is that is refused
+  heads_by : (request head : List ℕ) (b : Block) → SendsHeads setup refused c o request head
+      → IsBlock setup true refused o c b → (request ≡ b.request) × (head ≡ b.head)
+  heads_by request head b (decided a says is be) has =
+      let same = one_block setup true refused o c a b says has in
+      (is ∙ ap (λ (x : Block). x.request) same, be ∙ ap (λ (x : Block). x.head) same)
+  heads_by request head b (passed_on q h rest goes accepts final good is be) has =
+      let heads = block_heads setup refused c o b q h rest goes accepts final good has in
+      (is ∙ heads.0, be ∙ heads.1)
 
 pub heads_of_block : AreHeadsOfBlock
-heads_of_block setup c o request head b (decided a says is be) has =
-    let same = one_block setup true (false ≡ true) o c a b says has in
-    (is ∙ ap (λ (x : Block). x.request) same, be ∙ ap (λ (x : Block). x.head) same)
-heads_of_block setup c o request head b (passed_on q h rest goes final good is be) has =
-    let heads = block_heads setup c o b q h rest goes final good has in
-    (is ∙ heads.0, be ∙ heads.1)
+heads_of_block setup client shown o request head b sends has =
+    heads_by setup (RefusesUpload setup.requests.items client) shown o request head b sends has
 
 -- ---- there is one pair
 
@@ -90,7 +97,7 @@ heads_of_block setup c o request head b (passed_on q h rest goes final good is b
 ok_same : (x y : List ℕ × List ℕ) → ◌≡◌ {A = Result (List ℕ × List ℕ) ℕ} (Ok x) (Ok y) → x ≡ y
 ok_same x y is = cc
 
-module _ (setup : Setup) (c o : List ℕ) where
+module _ (setup : Setup) (refused : Type 0) (c o : List ℕ) where
   one_going : (q p : Request) → Goes setup c q true → Goes setup c p true → q ≡ p
   one_going q p goes also =
       let same = one_request c q.head p.head goes.knows.rest also.knows.rest goes.knows.reads
@@ -101,15 +108,17 @@ module _ (setup : Setup) (c o : List ℕ) where
       let host : q.host ≡ p.host = ap (λ (e : List ℕ × List ℕ). e.1) both in
       λ i. record { head = same.0 i; target = target i; host = host i }
 
-  pub one_heads : (a b x y : List ℕ) → SendsHeads setup c o a x → SendsHeads setup c o b y
+  pub one_heads : (a b x y : List ℕ) → SendsHeads setup refused c o a x → SendsHeads setup refused c o b y
       → (a ≡ b) × (x ≡ y)
   one_heads a b x y (decided block says is be) other =
-      let heads = heads_of_block setup c o b y block other says in
+      let heads = heads_by setup refused c o b y block other says in
       (is ∙ sym heads.0, be ∙ sym heads.1)
-  one_heads a b x y (passed_on q h rest goes final good is be) (decided block says same alike) =
-      let heads = heads_of_block setup c o a x block (passed_on q h rest goes final good is be) says in
+  one_heads a b x y (passed_on q h rest goes accepts final good is be) (decided block says same alike) =
+      let heads = heads_by setup refused c o a x block (passed_on q h rest goes accepts final good is be)
+      says in
       (heads.0 ∙ sym same, heads.1 ∙ sym alike)
-  one_heads a b x y (passed_on q h rest goes final good is be) (passed_on p k s going end fine same alike) =
+  one_heads a b x y (passed_on q h rest goes accepts final good is be)
+      (passed_on p k s going also end fine same alike) =
       let request = one_going q p goes going in
       let response = one_final o h k rest s final end in (
         is ∙ ap (λ (r : Request). request_text setup r.head r.target r.host) request ∙ sym same,

@@ -1,5 +1,6 @@
 -- From what holds of a transaction that has ended, and whose client leaves, to the heads that are shown.
-use Rattle.std.proofs.Common.{◌≡◌, ◌≢◌, ◌⊎◌, ℕ, ◌+◌, ◌<◌, ◌≤◌, List, [], ◌++◌, length, take, Bool, true, false}
+use Rattle.std.proofs.Common.{◌≡◌, ◌≢◌, ◌⊎◌, ℕ, ◌+◌, ◌<◌, ◌≤◌, List, [], ◌++◌, length, take, Bool, true}
+use Rattle.std.proofs.Common.{false}
 use Rattle.std.proofs.Common.{Option, Some, None, Result, Ok, Err, IfOk, inl, inr, refl, sym, ap, subst, ◌∙◌}
 use Rattle.std.proofs.Common.{arith, length-append}
 use Rattle.std.specs.Prelude.{IsSomeAnd, is_some, min}
@@ -15,26 +16,29 @@ use Rattle.ts_block.proofs.SentOnce.{was_read}
 use Rattle.ts_config.specs.declared.setup.Setup.{Setup}
 use Rattle.ts_hooks.specs.declared.txn_end.TxnEnd.{TxnEnd}
 use Rattle.ts_hooks.specs.declared.txn_end.TxnEnd.TheVariants as E
-use Rattle.ts_link.specs.Link.{Look, all_of}
-use Rattle.ts_link.specs.MemLink.{LinkState, look_of}
+use Rattle.ts_layers.specs.declared.layers.PlainExchange.{PlainExchange}
+use Rattle.ts_link.specs.Link.{all_of}
+use Rattle.ts_link.specs.MemLink.{LinkState}
 use Rattle.ts_phases.specs.Ends.{EndFact, Relayed, SomeText, own, quiet, relayed}
 use Rattle.ts_phases.specs.Facts.{Goes, HasOwnCause, HasOwnText, TookExactly, decided, fault}
-use Rattle.ts_phases.specs.View.{HasFailed, side}
+use Rattle.ts_phases.specs.View.{HasFailed}
 use Rattle.ts_phases.specs.declared.phase.OwnAnswer.{OwnAnswer}
 use Rattle.ts_phases.proofs.Responding.{final_more}
+use Rattle.ts_phases.proofs.Uploading.{took_request}
 use Rattle.ts_record.specs.Links.{GoesAsRecorded}
 use Rattle.ts_record.specs.Report.{IsReported}
 use Rattle.ts_record.specs.declared.report.ReportBlock.{ReportBlock}
+use Rattle.ts_replay.specs.AtOrigin.{StandsAt}
 use Rattle.ts_replay.specs.Exchanged.{LeavesHeads, MayEnd, ShowsEnd}
-use Rattle.ts_wire.specs.Blank.{EndsBlank, blank_end}
 use Rattle.ts_replay.specs.Heads.{SendsHeads}
 use Rattle.ts_replay.specs.Heads as heads
 use Rattle.ts_replay.specs.Recorded.{TakesSome}
 use Rattle.ts_replay.specs.Reports.{BothSides, IsShownBy, IsShownOf, left_report}
-use Rattle.ts_replay.proofs.Blocks.{request_ends}
-use Rattle.ts_replay.proofs.Standing.{StandsEnded, TakesUpTo, takes_up_to, viewed}
-use Rattle.ts_replay.proofs.Telling.{block_taken, same_block, taken_of}
-use Rattle.ts_txn.specs.declared.making.TxnParts.{TxnParts}
+use Rattle.ts_replay.specs.declared.at_origin.AtOrigin.{AtOrigin}
+use Rattle.ts_replay.proofs.Blocks.{request_sent}
+use Rattle.ts_replay.proofs.Standing.{Refused, StandsEnded, TakesUpTo, takes_up_to, viewed}
+use Rattle.ts_replay.proofs.Telling.{block_taken, same_block}
+use Rattle.ts_request.specs.Upload.{Strips}
 use Rattle.ts_wire.specs.Frames.{frames}
 
 -- ---- what a client got of a head
@@ -64,67 +68,67 @@ head_before taken waits head more most text few (inr full) = by_length (cases_lt
         ∙ take_at head more (length head) refl
         ∙ sym (take_all most head long)
 
--- a text that ends with an empty line is not empty
-ends_some : (text : List ℕ) → EndsBlank text → text ≡ [] → ⊥
-ends_some text ends none =
-    let long = ap length (sym none ∙ ends.text_is) in
-    let parts = length-append ends.front blank_end in
-    omega (arith, long, parts)
-
 -- ---- the heads that were sent
 
--- the heads of a transaction that left these parts and whose client leaves after so many bytes
-pub record HasHeadsAt (setup : Setup) (sides : BothSides) (parts : TxnParts LinkState LinkState)
+-- the heads of a transaction that left this and whose client leaves after so many bytes, and what is at its
+-- origin
+pub record HasHeadsAt (setup : Setup) (sides : BothSides) (left : PlainExchange LinkState LinkState)
     (link : LinkState) (most : ℕ) : Type 0 where
+  pub shown : List ℕ
+  pub strips : Strips sides.client shown
   pub request : List ℕ
   pub head : List ℕ
-  pub sends : SendsHeads setup sides.client sides.origin request head
-  pub leaves : LeavesHeads parts link most request head
-  pub may : IsSomeAnd parts.end (MayEnd (Some most))
+  pub sends : SendsHeads setup (Refused setup sides) shown sides.origin request head
+  pub at : AtOrigin
+  pub stands : StandsAt setup.requests.items sides.client request at
+  pub leaves : LeavesHeads left link most at head
+  pub may : IsSomeAnd left.parts.end (MayEnd (Some most))
 
-module _ (setup : Setup) (sides : BothSides) (parts : TxnParts LinkState LinkState) (link : LinkState)
-    (s : StandsEnded setup sides parts link) (most : ℕ) (some : 1 ≤ most)
-    (takes : TakesUpTo most parts.client) where
+module _ (setup : Setup) (sides : BothSides) (left : PlainExchange LinkState LinkState) (link : LinkState)
+    (s : StandsEnded setup sides left link) (most : ℕ) (some : 1 ≤ most)
+    (takes : TakesUpTo most left.parts.client) where
   -- the client took as many bytes as it takes where it failed, and else what waits for it is known
   got_head : (head more : List ℕ) → s.client.look.taken ++ s.client.outbox ≡ head ++ more
       → s.sent.head ≡ length head → (s.client.outbox ≡ []) ⊎ HasFailed s.client
-      → take parts.head parts.client.taken ≡ take most head
+      → take left.parts.head left.parts.client.taken ≡ take most head
   got_head head more text long waits =
-      let same : s.client.look.taken ≡ parts.client.taken = ap (λ (l : Look). l.taken) s.look in
-      ap (λ n. take n parts.client.taken) (s.head ∙ long)
-      ∙ head_before parts.client.taken s.client.outbox head more most
-      (ap (λ l. l ++ s.client.outbox) (sym same) ∙ text) takes.few (full waits)
+      ap (λ n. take n left.parts.client.taken) (s.head ∙ long)
+      ∙ head_before left.parts.client.taken s.client.outbox head more most
+      (ap (λ l. l ++ s.client.outbox) (sym s.took) ∙ text) takes.few (full waits)
     where
       full : (s.client.outbox ≡ []) ⊎ HasFailed s.client
-          → (s.client.outbox ≡ []) ⊎ (length parts.client.taken ≡ most)
+          → (s.client.outbox ≡ []) ⊎ (length left.parts.client.taken ≡ most)
       full (inl none) = inl none
       full (inr failed) = inr (takes.all (s.failed failed))
 
-  may_so : (end : TxnEnd) → s.end ≡ end → IsReported end → IsSomeAnd parts.end (MayEnd (Some most))
+  may_so : (end : TxnEnd) → s.end ≡ end → IsReported end → IsSomeAnd left.parts.end (MayEnd (Some most))
   may_so end is reported =
       subst (λ e. IsSomeAnd e (MayEnd (Some most))) (sym (s.end_is ∙ ap Some is)) reported
 
   -- those of its block, where that is known
   of_block : (end : TxnEnd) → s.end ≡ end → IsReported end → (b : Block) (more : List ℕ)
-      → IsBlock setup true (false ≡ true) (all_of (look_of s.origin.link)) (all_of s.client.look) b
-      → TookExactly (false ≡ true) b.request (side look_of s.origin)
+      → IsBlock setup true (Refused setup sides) (all_of s.origin.look) (all_of s.client.look) b
+      → TookExactly (Refused setup sides) b.request s.origin
       → s.client.look.taken ++ s.client.outbox ≡ b.head ++ more → s.sent.head ≡ length b.head
-      → (s.client.outbox ≡ []) ⊎ HasFailed s.client → HasHeadsAt setup sides parts link most
-  of_block end is reported b more says took text long waits = record {
-    request = b.request;
-    head = b.head;
-    sends = heads.decided b (same_block setup sides parts link s b says) refl refl;
-    leaves = record {
-      taken = block_taken setup sides parts link s b says took;
-      got = got_head b.head more text long waits;
-    };
-    may = may_so end is reported;
-  }
+      → (s.client.outbox ≡ []) ⊎ HasFailed s.client → HasHeadsAt setup sides left link most
+  of_block end is reported b more says took text long waits =
+      let (at, stands, taken) = block_taken setup sides left link s b says took in
+      record {
+        shown = s.shown;
+        strips = s.strips;
+        request = b.request;
+        head = b.head;
+        sends = heads.decided b (same_block setup sides left link s b says) refl refl;
+        at = at;
+        stands = stands;
+        leaves = record { taken = taken; got = got_head b.head more text long waits };
+        may = may_so end is reported;
+      }
 
   -- an own answer that was queued, whose client failed
   of_own : s.end ≡ E.ClientFault → HasFailed s.client → (a : OwnAnswer)
-      → HasOwnCause setup (false ≡ true) (viewed s.client s.origin s.sent) a
-      → HasOwnText setup s.client s.sent a → HasHeadsAt setup sides parts link most
+      → HasOwnCause setup (Refused setup sides) (viewed s.client s.origin s.sent) a
+      → HasOwnText setup s.client s.sent a → HasHeadsAt setup sides left link most
   of_own is failed a (decided request says whole took) text =
       of_block E.ClientFault is tt (own_block setup request a.status a.to_head) (own_sent a.to_head a.status)
       says took text.text text.head (inr failed)
@@ -132,43 +136,40 @@ module _ (setup : Setup) (sides : BothSides) (parts : TxnParts LinkState LinkSta
 
   -- the heads of a response that was passed on are those of all bytes of both sides
   sent_on : (done fin : Bool) (body : List ℕ)
-      → (r : Relayed setup (false ≡ true) (viewed s.client s.origin s.sent) done fin body)
-      → SendsHeads setup sides.client sides.origin (request_text setup r.q.head r.q.target r.q.host)
-      (relayed_head setup r.q.head r.h)
+      → (r : Relayed setup (Refused setup sides) (viewed s.client s.origin s.sent) done fin body)
+      → SendsHeads setup (Refused setup sides) s.shown sides.origin
+      (request_text setup r.q.head r.q.target r.q.host) (relayed_head setup r.q.head r.h)
   sent_on done fin body r =
-      let goes : Goes setup sides.client r.q true =
-      subst (λ c. Goes setup c r.q true) (ap (λ (l : Look). all_of l) s.look ∙ s.gives) r.served.goes in
-      let rest = (r.fed ++ s.origin.inbox) ++ (look_of s.origin.link).left in
+      let goes : Goes setup s.shown r.q true = subst (λ c. Goes setup c r.q true) s.gives r.served.goes in
+      let rest = (r.fed ++ s.origin.inbox) ++ s.origin.look.left in
       let final : FinalHead sides.origin r.h rest =
-      subst (λ o. FinalHead o r.h rest) (ap (λ (l : LinkState). all_of (look_of l)) s.origin_is ∙ s.answers)
-      (final_more (look_of s.origin.link).given r.h (r.fed ++ s.origin.inbox) (look_of s.origin.link).left
-      r.reads) in
-      heads.passed_on r.q r.h rest goes final r.good refl refl
+      subst (λ o. FinalHead o r.h rest) s.answers
+      (final_more s.origin.look.given r.h (r.fed ++ s.origin.inbox) s.origin.look.left r.reads) in
+      heads.passed_on r.q r.h rest goes r.served.accepts final r.good refl refl
 
   -- a response that was passed on, whose client failed
   of_relayed : s.end ≡ E.ClientFault → HasFailed s.client → (done fin : Bool) (body : List ℕ)
-      → Relayed setup (false ≡ true) (viewed s.client s.origin s.sent) done fin body
-      → HasHeadsAt setup sides parts link most
+      → Relayed setup (Refused setup sides) (viewed s.client s.origin s.sent) done fin body
+      → HasHeadsAt setup sides left link most
   of_relayed is failed done fin body r =
       let q = r.q in
-      let text = request_text setup q.head q.target q.host in
+      let request = request_text setup q.head q.target q.host in
       let knows = r.served.goes.knows in
-      let ends = request_ends setup s.plain q.head q.target q.host
+      let one = request_sent setup s.plain q.head q.target q.host
       (was_read (all_of s.client.look) q.head knows.rest knows.reads) knows.passes in
-      let carries = r.served.carries in
-      let took : TookExactly (false ≡ true) text (side look_of s.origin) = record {
-        text = sym (append-nil s.origin.link.taken) ∙ ap (λ w. s.origin.link.taken ++ w)
-            (sym r.served.no_waits) ∙ carries.text;
-        nothing = λ none. absurd (ends_some text ends none);
-        uploaded = λ some. inl refl;
-        no_waits = r.served.no_waits;
-      } in
+      let took = took_request setup (Refused setup sides) q s.origin r.served.carries r.served.no_waits
+      (inl r.served.uploaded) in
+      let (at, stands, taken) = s.arrived request (inr one) took in
       record {
-        request = text;
+        shown = s.shown;
+        strips = s.strips;
+        request = request;
         head = relayed_head setup q.head r.h;
         sends = sent_on done fin body r;
+        at = at;
+        stands = stands;
         leaves = record {
-          taken = taken_of setup sides parts link s text (inr ends) took;
+          taken = taken;
           got = got_head (relayed_head setup q.head r.h) (frames s.sent.mode r.text.pieces fin) r.text.text
               r.text.head_is (inr failed);
         };
@@ -177,10 +178,10 @@ module _ (setup : Setup) (sides : BothSides) (parts : TxnParts LinkState LinkSta
 
   -- whatever it had queued
   of_text : s.end ≡ E.ClientFault → HasFailed s.client
-      → SomeText setup (false ≡ true) (viewed s.client s.origin s.sent)
-      → HasHeadsAt setup sides parts link most
+      → SomeText setup (Refused setup sides) (viewed s.client s.origin s.sent)
+      → HasHeadsAt setup sides left link most
   of_text is failed (quiet none) =
-      let same : parts.client.taken ≡ [] = ap (λ (l : Look). l.taken) (sym s.look) ∙ none.no_taken in
+      let same : left.parts.client.taken ≡ [] = sym s.took ∙ none.no_taken in
       let all = takes.all (s.failed failed) in
       let long = ap length same in
       absurd (omega (arith, all, long, some))
@@ -188,8 +189,8 @@ module _ (setup : Setup) (sides : BothSides) (parts : TxnParts LinkState LinkSta
   of_text is failed (relayed done fin body r) = of_relayed is failed done fin body r
 
   by_end : (end : TxnEnd) → s.end ≡ end → end ≢ E.NoMemory
-      → EndFact setup (false ≡ true) (viewed s.client s.origin s.sent) end
-      → HasHeadsAt setup sides parts link most
+      → EndFact setup (Refused setup sides) (viewed s.client s.origin s.sent) end
+      → HasHeadsAt setup sides left link most
   by_end E.Whole is other fact =
       let w = fact.by in
       of_block E.Whole is tt w.block (frames s.sent.mode w.text.pieces true) w.has.is_block w.has.took
@@ -207,20 +208,20 @@ module _ (setup : Setup) (sides : BothSides) (parts : TxnParts LinkState LinkSta
   by_end E.NoMemory is other fact = absurd (other refl)
 
   -- by the end that it left
-  pub heads_at : (end : TxnEnd) → parts.end ≡ Some end → end ≢ E.NoMemory
-      → HasHeadsAt setup sides parts link most
+  pub heads_at : (end : TxnEnd) → left.parts.end ≡ Some end → end ≢ E.NoMemory
+      → HasHeadsAt setup sides left link most
   heads_at end is other =
       let same : s.end ≡ end = same_Some s.end end (sym s.end_is ∙ is) in
       by_end s.end refl (λ lacks. other (sym same ∙ lacks)) s.fact
 
 -- ---- where the client leaves
 
--- the transaction that left these parts is one whose client leaves, and these are its heads
-pub record HasLeft (setup : Setup) (sides : BothSides) (parts : TxnParts LinkState LinkState)
+-- the transaction that left this is one whose client leaves, and these are its heads
+pub record HasLeft (setup : Setup) (sides : BothSides) (left : PlainExchange LinkState LinkState)
     (link : LinkState) : Type 0 where
   pub most : ℕ
   pub leaves : sides.leave ≡ Some most
-  pub heads : HasHeadsAt setup sides parts link most
+  pub heads : HasHeadsAt setup sides left link most
 
 -- a side of which it is told how much it still takes leaves
 some_leave : (may_take : Option ℕ) (taken : ℕ) (leave : Option ℕ) → is_some may_take ≡ true
@@ -234,51 +235,73 @@ no_leave : (may_take : Option ℕ) (taken : ℕ) (leave : Option ℕ) → is_som
 no_leave None taken leave told is = sym is
 no_leave (Some m) taken leave told is = absurd (cc)
 
-module _ (setup : Setup) (sides : BothSides) (parts : TxnParts LinkState LinkState) (link : LinkState)
-    (s : StandsEnded setup sides parts link) where
-  pub stays_none : is_some parts.client.may_take ≡ false → sides.leave ≡ None
-  stays_none told = no_leave parts.client.may_take (length parts.client.taken) sides.leave told s.leaves
+module _ (setup : Setup) (sides : BothSides) (left : PlainExchange LinkState LinkState) (link : LinkState)
+    (s : StandsEnded setup sides left link) where
+  pub stays_none : is_some left.parts.client.may_take ≡ false → sides.leave ≡ None
+  stays_none told =
+      no_leave left.parts.client.may_take (length left.parts.client.taken) sides.leave told s.leaves
 
-  pub left_at : GoesAsRecorded parts.client → is_some parts.client.may_take ≡ true → TakesSome sides.leave
-      → (end : TxnEnd) → parts.end ≡ Some end → end ≢ E.NoMemory → HasLeft setup sides parts link
+  pub left_at : GoesAsRecorded left.parts.client → is_some left.parts.client.may_take ≡ true
+      → TakesSome sides.leave → (end : TxnEnd) → left.parts.end ≡ Some end → end ≢ E.NoMemory
+      → HasLeft setup sides left link
   left_at goes told some end is other =
-      let (most, leaves) = some_leave parts.client.may_take (length parts.client.taken) sides.leave told
-      s.leaves in
+      let (most, leaves) = some_leave left.parts.client.may_take (length left.parts.client.taken) sides.leave
+      told s.leaves in
       record {
         most = most;
         leaves = leaves;
-        heads = heads_at setup sides parts link s most (subst TakesSome leaves some)
-            (takes_up_to most parts.client goes (s.leaves ∙ leaves)) end is other;
+        heads = heads_at setup sides left link s most (subst TakesSome leaves some)
+            (takes_up_to most left.parts.client goes (s.leaves ∙ leaves)) end is other;
       }
 
 -- ---- what is shown of them
 
--- what was cut out of the parts is what is shown
-module _ {X : Type 0} (setup : Setup) (sides : BothSides) (most : ℕ) (leaves : sides.leave ≡ Some most)
-    (parts : TxnParts LinkState LinkState) (link : LinkState) (h : HasHeadsAt setup sides parts link most)
-  where
-    pub shows_left : (r : Result ReportBlock X) → IfOk r (λ b. b ≡ left_report most h.request h.head)
-        → IfOk r (IsShownOf setup sides)
-    shows_left (Ok b) is =
-        subst (λ l. IsShownBy l setup sides.client sides.origin b) (sym leaves)
-        (record { request = h.request; head = h.head; sends = h.sends; shows = is })
-    shows_left (Err e) is = tt
+-- what was cut out of what is left is what is shown
+module _ {X : Type 0} (setup : Setup) (sides : BothSides) (left : PlainExchange LinkState LinkState)
+    (link : LinkState) (l : HasLeft setup sides left link) where
+  pub shows_left : (r : Result ReportBlock X) → IfOk r (λ b. b ≡ left_report l.most l.heads.at l.heads.head)
+      → IfOk r (IsShownOf setup sides)
+  shows_left (Ok b) is =
+      subst (λ leave. IsShownBy leave setup sides.client sides.origin b) (sym l.leaves)
+      (record {
+        shown = l.heads.shown;
+        strips = l.heads.strips;
+        request = l.heads.request;
+        head = l.heads.head;
+        sends = l.heads.sends;
+        at = l.heads.at;
+        stands = l.heads.stands;
+        shows = is;
+      })
+  shows_left (Err e) is = tt
 
-    pub shows_left_end : (r : Result ReportBlock X) → IfOk r (λ b. b ≡ left_report most h.request h.head)
-        → IfOk r (λ b. ShowsEnd sides.leave parts.end b.end)
-    shows_left_end (Ok b) is =
-        subst (λ l. ShowsEnd l parts.end b.end) (sym leaves)
-        (h.may, ap (λ (x : ReportBlock). x.end) is)
-    shows_left_end (Err e) is = tt
+  pub shows_left_end : (r : Result ReportBlock X)
+      → IfOk r (λ b. b ≡ left_report l.most l.heads.at l.heads.head)
+      → IfOk r (λ b. ShowsEnd sides.leave left.parts.end b.end)
+  shows_left_end (Ok b) is =
+      subst (λ leave. ShowsEnd leave left.parts.end b.end) (sym l.leaves)
+      (l.heads.may, ap (λ (x : ReportBlock). x.end) is)
+  shows_left_end (Err e) is = tt
 
 -- a block that is this one part by part is shown
-pub left_same : (text head content : List ℕ) (most : ℕ) (request whole : List ℕ) → text ≡ request
+pub left_same : (found at : AtOrigin) (head content : List ℕ) (most : ℕ) (whole : List ℕ) → found ≡ at
     → head ≡ take most whole → content ≡ []
-    → ◌≡◌ {A = ReportBlock}
-    (record { request = text; upload = None; end = E.ClientFault; head = head; content = content; tap = None })
-    (left_report most request whole)
-left_same text head content most request whole p q r = λ i. record
-    { request = p i; upload = None; end = E.ClientFault; head = q i; content = r i; tap = None }
+    → ◌≡◌ {A = ReportBlock} (record {
+      request = found.request;
+      upload = found.upload;
+      end = E.ClientFault;
+      head = head;
+      content = content;
+      tap = None;
+    }) (left_report most at whole)
+left_same found at head content most whole p q r = λ i. record {
+  request = (p i).request;
+  upload = (p i).upload;
+  end = E.ClientFault;
+  head = q i;
+  content = r i;
+  tap = None;
+}
 
 -- as much of a head as there is
 pub front_within : (taken written : List ℕ) (head shown : ℕ) → written ≡ taken

@@ -1,5 +1,5 @@
 -- Rows of groups of recorded transactions and hook plugins grow.
-use Rattle.std.proofs.Common.{◌≡◌, ℕ, ◌+◌, ◌≤◌, List, [], ◌∷◌, ◌++◌, length, length-append, map, false, true}
+use Rattle.std.proofs.Common.{◌≡◌, ℕ, ◌+◌, ◌≤◌, List, [], ◌∷◌, ◌++◌, length, length-append, map, false}
 use Rattle.std.proofs.Common.{append_assoc, append-nil, Option, None, Some, refl, sym, ap, subst, ◌∙◌, arith}
 use Rattle.std.specs.Prelude.{Err, IfOk, Ok, Result}
 use Rattle.std.specs.List.{AllZip}
@@ -8,10 +8,11 @@ use Rattle.std.proofs.lemmas.List.Elements.{All-append, All-push}
 use Rattle.std.proofs.lemmas.Option.{same_Some}
 use Rattle.ts_config.specs.declared.fields.PluginLine.{PluginLine}
 use Rattle.ts_config.specs.declared.setup.Setup.{Setup}
-use Rattle.ts_exchange.specs.Ends.{AreNewEnds, AreSureEnds, IsTagBetween}
+use Rattle.ts_exchange.specs.Ends.{AreNewEnds}
 use Rattle.ts_exchange.specs.Rows.{IsTagOfLine, StandBehind}
 use Rattle.ts_group.specs.declared.either.EitherTag.TheVariants as kind
-use Rattle.ts_link.specs.Link.{IsSure}
+use Rattle.ts_layers.specs.Layers.{AreSureLayers, IsLayeredTag}
+use Rattle.ts_link.specs.Link.{IsSure, NeverLeaves}
 use Rattle.ts_link.specs.MemLink.{LinkState, look_of}
 use Rattle.ts_link.specs.declared.piece.Piece.{Piece}
 use Rattle.ts_record.specs.Grammar.{TxnPieces}
@@ -19,7 +20,8 @@ use Rattle.ts_record.specs.Links.{IsNewSide, recorded_side}
 use Rattle.ts_record.specs.declared.recording.TheConstants.{MOST_TXNS}
 use Rattle.ts_replay.specs.Members.{HookPlugin, Member, Transaction, numbered}
 use Rattle.ts_replay.specs.Recorded.{AllTakeSome, FitsIn, HasPlainLines, IsNewTagOf, RecordedTag, RowGroup}
-use Rattle.ts_replay.specs.Recorded.{RowTag, TakesSome, recorded_ends, recorded_origin, recorded_promise}
+use Rattle.ts_replay.specs.Recorded.{RowTag, TakesSome, layered_client, layered_link, layered_origin}
+use Rattle.ts_replay.specs.Recorded.{recorded_ends, recorded_origin, recorded_promise}
 use Rattle.ts_replay.specs.Rows.{AreGroupsOf, IsRowOf, IsTxnRowOf}
 use Rattle.ts_stock.specs.StockTransform.{stock_transform}
 use Rattle.ts_thread.specs.Threads.{HasHadTurns}
@@ -46,12 +48,13 @@ sure_side : (pieces : List Piece) (leave : Option ℕ) → IsSure (look_of (reco
 sure_side pieces leave =
     record { fail_reads = refl; fail_writes = refl; again_reads = refl; again_writes = refl }
 
+-- and the origin never leaves
 pub sure_sides : (client origin : List Piece) (leave : Option ℕ)
-    → AreSureEnds look_of look_of (recorded_side client leave) (Some (recorded_side origin None))
+    → AreSureLayers look_of look_of (recorded_side client leave) (Some (recorded_side origin None))
 sure_sides client origin leave = record {
   sure = sure_side client leave;
-  sure_origin = λ o is. subst (λ l. IsSure (look_of l)) (same_Some (recorded_side origin None) o is)
-      (sure_side origin None);
+  sure_origin = λ o is. subst (λ l. IsSure (look_of l) × NeverLeaves (look_of l))
+      (same_Some (recorded_side origin None) o is) (sure_side origin None, refl);
 }
 
 -- two sides that were just made were not used, and belong together
@@ -73,7 +76,7 @@ new_sides client origin bytes answer of_client of_origin = record {
 
 -- the tag between recorded ends is that of a transaction
 pub tag_of_txn : (setup : Setup) (at number : ℕ) (txn : TxnPieces) (tag : RecordedTag)
-    → IsTagBetween (recorded_ends setup at number txn) recorded_promise false tag → TakesSome txn.leave
+    → IsLayeredTag (recorded_ends setup at number txn) recorded_promise false tag → TakesSome txn.leave
     → IsNewTagOf setup at (Transaction number txn) (kind.One tag)
 tag_of_txn setup at number txn tag between some = record { between = between; takes_some = some }
 
@@ -169,7 +172,7 @@ lines_tagged setup at (l ∷ ls) (kind.Other p ∷ tags) are = (are.0, lines_tag
 -- whatever members had groups, behind them the plugins of these lines have theirs
 pub stand_behind : (setup : Setup) (at : ℕ) (ms : List Member) (lines : List PluginLine)
     (tags us : List RowTag) (groups hs : List RowGroup) → AreGroupsOf setup at ms tags groups
-    → StandBehind memory_link memory_link recorded_origin stock_transform lines tags us groups hs
+    → StandBehind layered_client layered_link layered_origin stock_transform lines tags us groups hs
     → AreGroupsOf setup at (ms ++ map HookPlugin lines) us hs
 stand_behind setup at ms lines tags us groups hs row stand =
     subst (λ ts. AreGroupsOf setup at (ms ++ map HookPlugin lines) ts hs) (sym stand.tags_are)
@@ -186,14 +189,14 @@ pub row_behind : {E : Type 0} {X : Type 0} (tags_of : X → List RowTag) (groups
     (setup : Setup) (txns : List TxnPieces) (lines : List PluginLine) (tags : List RowTag)
     (groups : List RowGroup) (result : Result X E) → lines ≡ setup.plugins.items
     → IsTxnRowOf setup txns tags groups
-    → IfOk result (λ r. StandBehind memory_link memory_link recorded_origin stock_transform lines tags
+    → IfOk result (λ r. StandBehind layered_client layered_link layered_origin stock_transform lines tags
     (tags_of r) groups (groups_of r))
     → IfOk result (λ r. IsRowOf setup txns (tags_of r) (groups_of r))
 row_behind tags_of groups_of setup txns lines tags groups (Ok r) is row stand = record {
   lines = row.lines;
   groups_are = stand_behind setup (length txns) (numbered 1 txns) setup.plugins.items tags (tags_of r) groups
       (groups_of r) row.groups_are
-      (subst (λ ls. StandBehind memory_link memory_link recorded_origin stock_transform ls tags (tags_of r)
+      (subst (λ ls. StandBehind layered_client layered_link layered_origin stock_transform ls tags (tags_of r)
       groups (groups_of r)) is stand);
 }
 row_behind tags_of groups_of setup txns lines tags groups (Err e) is row stand = tt

@@ -1,5 +1,6 @@
 -- A block, and the heads of one, depend on nothing of a setup but its lines.
-use Rattle.std.proofs.Common.{◌≡◌, ℕ, List, ◌∷◌, [], Bool, true, false, Some, Result, Ok, Err, ap, subst, sym, ◌∙◌}
+use Rattle.std.proofs.Common.{◌≡◌, ℕ, List, ◌∷◌, [], Bool, true, false, Some, Result, Ok, Err, ap, subst}
+use Rattle.std.proofs.Common.{sym, ◌∙◌}
 use Rattle.std.proofs.Common.{inl, inr}
 use Rattle.std.specs.List.{list_any}
 use Rattle.ts_config.specs.Bodies.{compose_lines, is_early}
@@ -142,10 +143,11 @@ module _ (s t : Setup) (lines : s.transforms.items ≡ t.transforms.items)
     block_same c b (asked some q rest has says) = asked some q rest has (verdict_same (check q) q b says)
 
   -- the heads that a transaction sends
-  pub heads_same : (c o request head : List ℕ) → SendsHeads s c o request head → SendsHeads t c o request head
-  heads_same c o request head (heads.decided b says is be) =
-      heads.decided b (block_same true (false ≡ true) o c b says) is be
-  heads_same c o request head (heads.passed_on q h rest goes final good is be) =
-      heads.passed_on q h rest (goes_same c q goes) final good
+  pub heads_same : (refused : Type 0) (c o request head : List ℕ) → SendsHeads s refused c o request head
+      → SendsHeads t refused c o request head
+  heads_same refused c o request head (heads.decided b says is be) =
+      heads.decided b (block_same true refused o c b says) is be
+  heads_same refused c o request head (heads.passed_on q h rest goes accepts final good is be) =
+      heads.passed_on q h rest (goes_same c q goes) accepts final good
       (is ∙ request_same q.head q.target q.host)
       (be ∙ ap (λ (b : Block). b.head) (relayed_same request q.head h E.Whole []))

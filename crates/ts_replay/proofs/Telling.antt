@@ -4,41 +4,50 @@ use Rattle.std.proofs.Common.{false, Option, Some, None, length, refl, sym, ap, 
 use Rattle.std.proofs.lemmas.List.{append-nil, take_at, drop_at}
 use Rattle.std.proofs.lemmas.Option.{same_Some}
 use Rattle.ts_config.specs.declared.setup.Setup.{Setup}
-use Rattle.ts_exchange.specs.Left.{Exchanges}
 use Rattle.ts_hooks.specs.declared.txn_end.TxnEnd.{TxnEnd}
 use Rattle.ts_hooks.specs.declared.txn_end.TxnEnd.TheVariants as E
-use Rattle.ts_link.specs.Link.{Look, all_of}
-use Rattle.ts_link.specs.MemLink.{LinkState, look_of}
+use Rattle.ts_layers.specs.Layers.{LayeredExchanges}
+use Rattle.ts_layers.specs.declared.layers.PlainExchange.{PlainExchange}
+use Rattle.ts_link.specs.Link.{all_of}
+use Rattle.ts_link.specs.MemLink.{LinkState}
 use Rattle.ts_record.specs.Links.{GoesAsRecorded}
 use Rattle.ts_record.specs.Report.{IsReported}
 use Rattle.ts_record.specs.declared.report.ReportBlock.{ReportBlock}
 use Rattle.ts_block.specs.Block.{IsBlock}
 use Rattle.ts_phases.specs.Ends.{EndFact, HasText, ShortEnd}
 use Rattle.ts_phases.specs.Facts.{TookExactly}
-use Rattle.ts_phases.specs.View.{HasFailed, side}
+use Rattle.ts_phases.specs.View.{HasFailed}
 use Rattle.ts_block.specs.declared.block.Block.{Block}
+use Rattle.ts_request.specs.Upload.{Strips}
+use Rattle.ts_stock.specs.StockTransform.{stock_transform}
 use Rattle.ts_txn.specs.declared.making.TxnParts.{TxnParts}
 use Rattle.ts_upstream.specs.InMemory.{memory_link}
 use Rattle.ts_wire.specs.Frames.{cut_body, frames}
+use Rattle.ts_replay.specs.AtOrigin.{StandsAt}
 use Rattle.ts_replay.specs.Exchanged.{GotBy, HasGot, HasTaken, IsLeftBetween, IsRunBetween, LeavesBlock}
 use Rattle.ts_replay.specs.Exchanged.{MayEnd, ShowsEnd}
 use Rattle.ts_replay.specs.Recorded.{Recorded, recorded_origin}
 use Rattle.ts_replay.specs.Reports.{BothSides, IsShownBy, IsShownOf, in_report}
 use Rattle.ts_replay.specs.Unframing.{IsFramed}
-use Rattle.ts_replay.proofs.Blocks.{EndsBlankIf, block_shaped}
-use Rattle.ts_replay.proofs.Standing.{StandsEnded, no_fault, viewed}
+use Rattle.ts_replay.specs.declared.at_origin.AtOrigin.{AtOrigin}
+use Rattle.ts_replay.proofs.Blocks.{block_shaped}
+use Rattle.ts_replay.proofs.Standing.{Refused, StandsEnded, no_fault, viewed}
 
--- the block of all that two sides give
-abbrev pub IsBlockOf : Setup → List ℕ → List ℕ → Block → Type 0
-IsBlockOf setup c o b = IsBlock setup true (false ≡ true) o c b
+-- the block of all that is shown of the client and all that the origin gives
+abbrev pub IsBlockOf : Setup → BothSides → List ℕ → Block → Type 0
+IsBlockOf setup sides shown b = IsBlock setup true (Refused setup sides) sides.origin shown b
 
--- the block that a transaction came to which left these parts and ended so
-pub record HasBlockAt (setup : Setup) (sides : BothSides) (parts : TxnParts LinkState LinkState)
+-- the block that a transaction came to which left this and ended so, and what is at its origin
+pub record HasBlockAt (setup : Setup) (sides : BothSides) (left : PlainExchange LinkState LinkState)
     (link : LinkState) (end : TxnEnd) : Type 0 where
   pub may : MayEnd None end
+  pub shown : List ℕ
+  pub strips : Strips sides.client shown
   pub block : Block
-  pub is_block : IsBlockOf setup sides.client sides.origin block
-  pub leaves : LeavesBlock parts link end block
+  pub is_block : IsBlockOf setup sides shown block
+  pub at : AtOrigin
+  pub stands : StandsAt setup.requests.items sides.client block.request at
+  pub leaves : LeavesBlock left link end at block
 
 -- where a body was cut or broke its framing, its block has none
 got_short : (end : TxnEnd) (parts : TxnParts LinkState LinkState) (b : Block) (sent : List ℕ) → end ≢ E.Whole
@@ -46,81 +55,73 @@ got_short : (end : TxnEnd) (parts : TxnParts LinkState LinkState) (b : Block) (s
 got_short E.Whole parts b sent other none got = absurd (other refl)
 got_short _ parts b sent other none got = (none, (sent, got))
 
-module _ (setup : Setup) (sides : BothSides) (parts : TxnParts LinkState LinkState) (link : LinkState)
-    (s : StandsEnded setup sides parts link) where
+module _ (setup : Setup) (sides : BothSides) (left : PlainExchange LinkState LinkState) (link : LinkState)
+    (s : StandsEnded setup sides left link) where
   -- the block of what its links gave or may still give is that of these bytes
-  pub same_block : (b : Block) → IsBlockOf setup (all_of s.client.look) (all_of (look_of s.origin.link)) b
-      → IsBlockOf setup sides.client sides.origin b
+  pub same_block : (b : Block) → IsBlock setup true (Refused setup sides) (all_of s.origin.look)
+      (all_of s.client.look) b → IsBlockOf setup sides s.shown b
   same_block b says =
-      subst (λ l. IsBlockOf setup sides.client l b)
-      (ap (λ (l : LinkState). all_of (look_of l)) s.origin_is ∙ s.answers)
-      (subst (λ l. IsBlockOf setup l (all_of (look_of s.origin.link)) b)
-      (ap (λ (l : Look). all_of l) s.look ∙ s.gives) says)
+      subst (λ l. IsBlock setup true (Refused setup sides) l s.shown b) s.answers
+      (subst (λ l. IsBlock setup true (Refused setup sides) (all_of s.origin.look) l b) s.gives says)
 
   -- the client took the head, and so much of a body
   got_text : (b : Block) (body : List ℕ) (fin : Bool) → s.client.outbox ≡ []
-      → HasText s.client s.sent b.head body fin → HasGot parts b body fin
+      → HasText s.client s.sent b.head body fin → HasGot left.parts b body fin
   got_text b body fin none h = record {
     pieces = h.pieces;
     each = h.each;
     text =
-        sym (ap (λ (l : Look). l.taken) s.look) ∙ sym (append-nil s.client.look.taken) ∙ ap
-        (λ w. s.client.look.taken ++ w) (sym none)
+        sym s.took ∙ sym (append-nil s.client.look.taken)
+        ∙ ap (λ w. s.client.look.taken ++ w) (sym none)
         ∙ h.text ∙ ap (λ m. b.head ++ frames m h.pieces fin) (sym s.mode);
     head = s.head ∙ h.head_is;
-    cuts = s.cuts ∙ h.cuts;
     body = h.body_is;
   }
 
-  -- the origin took this request
-  pub taken_of : (request : List ℕ) → EndsBlankIf request
-      → TookExactly (false ≡ true) request (side look_of s.origin) → HasTaken link request
-  taken_of request ends took = record {
-    upload = [];
-    text = sym (ap (λ (l : LinkState). l.taken) s.origin_is) ∙ took.text;
-    nothing = took.nothing;
-    ends = ends;
-  }
-
-  -- and so that of its block
-  pub block_taken : (b : Block) → IsBlockOf setup (all_of s.client.look) (all_of (look_of s.origin.link)) b
-      → TookExactly (false ≡ true) b.request (side look_of s.origin) → HasTaken link b.request
+  -- what is at the origin, of the request of a block
+  pub block_taken : (b : Block) → IsBlock setup true (Refused setup sides) (all_of s.origin.look)
+      (all_of s.client.look) b → TookExactly (Refused setup sides) b.request s.origin
+      → (at : AtOrigin) × StandsAt setup.requests.items sides.client b.request at
+      × HasTaken link.taken left.upload at
   block_taken b says took =
-      taken_of b.request (block_shaped setup s.plain true (false ≡ true) _ _ b says).request took
+      s.arrived b.request (block_shaped setup s.plain true (Refused setup sides) _ _ b says).request took
+
+  -- a block and what is at the origin
+  of_block : (end : TxnEnd) → MayEnd None end → (b : Block)
+      → IsBlock setup true (Refused setup sides) (all_of s.origin.look) (all_of s.client.look) b → b.end ≡ end
+      → TookExactly (Refused setup sides) b.request s.origin → GotBy end left.parts b
+      → HasBlockAt setup sides left link end
+  of_block end may b says ends took got =
+      let (at, stands, taken) = block_taken b says took in
+      record {
+        may = may;
+        shown = s.shown;
+        strips = s.strips;
+        block = b;
+        is_block = same_block b says;
+        at = at;
+        stands = stands;
+        leaves = record { end_is = ends; taken = taken; got = got };
+      }
 
   -- the block of a body that was cut, or that broke its framing
   short_sent : (end : TxnEnd) → MayEnd None end → end ≢ E.Whole
-      → ShortEnd setup (false ≡ true) (viewed s.client s.origin s.sent) end
-      → HasBlockAt setup sides parts link end
+      → ShortEnd setup (Refused setup sides) (viewed s.client s.origin s.sent) end
+      → HasBlockAt setup sides left link end
   short_sent end may other short =
-      let shaped = block_shaped setup s.plain true (false ≡ true) _ _ short.block short.has.is_block in
+      let shaped = block_shaped setup s.plain true (Refused setup sides) _ _ short.block short.has.is_block in
       let none = shaped.short (λ whole. other (sym short.has.ends ∙ whole)) in
-      record {
-        may = may;
-        block = short.block;
-        is_block = same_block short.block short.has.is_block;
-        leaves = record {
-          end_is = short.has.ends;
-          taken = block_taken short.block short.has.is_block short.has.took;
-          got = got_short end parts short.block short.sent other none
-              (got_text short.block short.sent false short.has.no_waits short.text);
-        };
-      }
+      of_block end may short.block short.has.is_block short.has.ends short.has.took
+      (got_short end left.parts short.block short.sent other none
+      (got_text short.block short.sent false short.has.no_waits short.text))
 
   -- one whose client stays, and for which memory did not lack, came to a block
   block_sent : (HasFailed s.client → ⊥) → (end : TxnEnd) → end ≢ E.NoMemory
-      → EndFact setup (false ≡ true) (viewed s.client s.origin s.sent) end
-      → HasBlockAt setup sides parts link end
-  block_sent sure E.Whole other fact = record {
-    may = tt;
-    block = fact.by.block;
-    is_block = same_block fact.by.block fact.by.has.is_block;
-    leaves = record {
-      end_is = fact.by.has.ends;
-      taken = block_taken fact.by.block fact.by.has.is_block fact.by.has.took;
-      got = got_text fact.by.block fact.by.block.body true fact.by.has.no_waits fact.by.text;
-    };
-  }
+      → EndFact setup (Refused setup sides) (viewed s.client s.origin s.sent) end
+      → HasBlockAt setup sides left link end
+  block_sent sure E.Whole other fact =
+      of_block E.Whole tt fact.by.block fact.by.has.is_block fact.by.has.ends fact.by.has.took
+      (got_text fact.by.block fact.by.block.body true fact.by.has.no_waits fact.by.text)
   block_sent sure E.OriginCut other fact = short_sent E.OriginCut tt (λ whole. cc) fact.by
   block_sent sure E.OriginBad other fact = short_sent E.OriginBad tt (λ whole. cc) fact.by
   block_sent sure E.OriginFault other fact = absurd (s.never fact.by.failed)
@@ -128,26 +129,22 @@ module _ (setup : Setup) (sides : BothSides) (parts : TxnParts LinkState LinkSta
   block_sent sure E.NoMemory other fact = absurd (other refl)
 
   -- by the end that it left
-  pub block_at : GoesAsRecorded parts.client → sides.leave ≡ None → (end : TxnEnd) → parts.end ≡ Some end
-      → end ≢ E.NoMemory → HasBlockAt setup sides parts link end
+  pub block_at : GoesAsRecorded left.parts.client → sides.leave ≡ None → (end : TxnEnd)
+      → left.parts.end ≡ Some end → end ≢ E.NoMemory → HasBlockAt setup sides left link end
   block_at goes stays end is other =
       let same : s.end ≡ end = same_Some s.end end (sym s.end_is ∙ is) in
-      let none = no_fault parts.client goes (s.leaves ∙ stays) in
-      subst (HasBlockAt setup sides parts link) same
+      let none = no_fault left.parts.client goes (s.leaves ∙ stays) in
+      subst (HasBlockAt setup sides left link) same
       (block_sent
       (λ failed. let some = s.failed failed in absurd (omega (arith, none, some)))
       s.end (λ lacks. other (sym same ∙ lacks)) s.fact)
 
-  -- it has an end
-  pub has_ended : parts.end ≡ None → ⊥
-  has_ended none = let both : Some s.end ≡ None = sym s.end_is ∙ none in cc
-
 -- what is left of a transaction that was run between two sides
-pub left_between : (setup : Setup) (sides : BothSides) (t : Recorded) (parts : TxnParts LinkState LinkState)
-    → (run : IsRunBetween setup sides t)
-    → Exchanges memory_link memory_link recorded_origin run.ends true run.state parts
-    → IsLeftBetween setup sides parts
-left_between setup sides t parts run exchanges = record {
+pub left_between : (setup : Setup) (sides : BothSides) (t : Recorded)
+    (left : PlainExchange LinkState LinkState) → (run : IsRunBetween setup sides t)
+    → LayeredExchanges memory_link memory_link recorded_origin stock_transform run.ends true run.state left
+    → IsLeftBetween setup sides left
+left_between setup sides t left run exchanges = record {
   ends = run.ends;
   ends_are = run.ends_are;
   state = run.state;
@@ -157,14 +154,13 @@ left_between setup sides t parts run exchanges = record {
 }
 
 -- the frames behind the head of a whole answer
-pub framed_behind : (parts : TxnParts LinkState LinkState) (link : LinkState) (b : Block) (behind : List ℕ)
-    → behind ≡ drop parts.head parts.client.taken → (h : LeavesBlock parts link E.Whole b)
-    → IsFramed parts.mode parts.cuts.items behind h.got.pieces
-framed_behind parts link b behind is h = record {
+pub framed_behind : (left : PlainExchange LinkState LinkState) (link : LinkState) (at : AtOrigin) (b : Block)
+    (behind : List ℕ) → behind ≡ drop left.parts.head left.parts.client.taken
+    → (h : LeavesBlock left link E.Whole at b) → IsFramed left.parts.mode behind h.got.pieces
+framed_behind left link at b behind is h = record {
   each = h.got.each;
-  cuts_are = h.got.cuts;
-  bytes_are = is ∙ ap (drop parts.head) h.got.text ∙ drop_at b.head (frames parts.mode h.got.pieces true)
-      parts.head (sym h.got.head);
+  bytes_are = is ∙ ap (drop left.parts.head) h.got.text ∙ drop_at b.head
+      (frames left.parts.mode h.got.pieces true) left.parts.head (sym h.got.head);
 }
 
 -- the client took a head of this length first
@@ -190,51 +186,69 @@ head_by parts b E.Whole got = got_head parts b b.body true got
 head_by parts b _ got = got_head parts b got.1.0 false got.1.1
 
 -- what it took begins with that head
-pub head_front : (parts : TxnParts LinkState LinkState) (link : LinkState) (end : TxnEnd) (b : Block)
-    → LeavesBlock parts link end b → take parts.head parts.client.taken ≡ b.head
-head_front parts link end b h =
-    let got = head_by parts b end h.got in
-    ap (take parts.head) got.text ∙ take_at b.head got.behind parts.head (sym got.length_is)
+pub head_front : (left : PlainExchange LinkState LinkState) (link : LinkState) (end : TxnEnd) (at : AtOrigin)
+    (b : Block) → LeavesBlock left link end at b → take left.parts.head left.parts.client.taken ≡ b.head
+head_front left link end at b h =
+    let got = head_by left.parts b end h.got in
+    ap (take left.parts.head) got.text ∙ take_at b.head got.behind left.parts.head (sym got.length_is)
 
 -- what was taken out of the frames is the body
-pub content_is : (parts : TxnParts LinkState LinkState) (link : LinkState) (end : TxnEnd) (b : Block)
-    (behind content : List ℕ) → behind ≡ drop parts.head parts.client.taken → LeavesBlock parts link end b
-    → (end ≡ E.Whole → (pieces : List (List ℕ)) → IsFramed parts.mode parts.cuts.items behind pieces → content
+pub content_is : (left : PlainExchange LinkState LinkState) (link : LinkState) (end : TxnEnd) (at : AtOrigin)
+    (b : Block) (behind content : List ℕ) → behind ≡ drop left.parts.head left.parts.client.taken
+    → LeavesBlock left link end at b
+    → (end ≡ E.Whole → (pieces : List (List ℕ)) → IsFramed left.parts.mode behind pieces → content
     ≡ cut_body pieces) → (end ≢ E.Whole → content ≡ []) → content ≡ b.body
-content_is parts link E.Whole b behind content is h whole short = whole refl h.got.pieces
-    (framed_behind parts link b behind is h) ∙ h.got.body
-content_is parts link _ b behind content is h whole short = short (λ e. cc) ∙ sym h.got.0
+content_is left link E.Whole at b behind content is h whole short = whole refl h.got.pieces
+    (framed_behind left link at b behind is h) ∙ h.got.body
+content_is left link _ at b behind content is h whole short = short (λ e. cc) ∙ sym h.got.0
 
 -- a block that is this one part by part is shown
-pub block_same : (request : List ℕ) (end : TxnEnd) (head content : List ℕ) (b : Block) → request ≡ b.request
-    → end ≡ b.end → head ≡ b.head → content ≡ b.body
+pub block_same : (found : AtOrigin) (end : TxnEnd) (head content : List ℕ) (at : AtOrigin) (b : Block)
+    → found ≡ at → end ≡ b.end → head ≡ b.head → content ≡ b.body
     → ◌≡◌ {A = ReportBlock} (record {
-      request = request;
-      upload = None;
+      request = found.request;
+      upload = found.upload;
       end = end;
       head = head;
       content = content;
       tap = None;
-    }) (in_report b)
-block_same request end head content b p q r s = λ i. record
-    { request = p i; upload = None; end = q i; head = r i; content = s i; tap = None }
+    }) (in_report at b)
+block_same found end head content at b p q r s = λ i. record {
+  request = (p i).request;
+  upload = (p i).upload;
+  end = q i;
+  head = r i;
+  content = s i;
+  tap = None;
+}
 
--- the block that was cut out of the parts is the one that is shown
-module _ {X : Type 0} (setup : Setup) (sides : BothSides) (stays : sides.leave ≡ None) (b : Block) where
-  pub shows_if : (r : Result ReportBlock X) → IsBlockOf setup sides.client sides.origin b
-      → IfOk r (λ s. s ≡ in_report b) → IfOk r (IsShownOf setup sides)
-  shows_if (Ok s) says is =
-      subst (λ l. IsShownBy l setup sides.client sides.origin s) (sym stays)
-      (record { block = b; is_block = says; shows = is })
-  shows_if (Err e) says is = tt
+-- the block that was cut out of what is left is the one that is shown
+module _ {X : Type 0} (setup : Setup) (sides : BothSides) (left : PlainExchange LinkState LinkState)
+    (link : LinkState) (end : TxnEnd) (stays : sides.leave ≡ None) (h : HasBlockAt setup sides left link end)
+  where
+    pub shows_if : (r : Result ReportBlock X) → IfOk r (λ s. s ≡ in_report h.at h.block)
+        → IfOk r (IsShownOf setup sides)
+    shows_if (Ok s) is =
+        subst (λ l. IsShownBy l setup sides.client sides.origin s) (sym stays)
+        (record {
+          shown = h.shown;
+          strips = h.strips;
+          block = h.block;
+          is_block = h.is_block;
+          at = h.at;
+          stands = h.stands;
+          shows = is;
+        })
+    shows_if (Err e) is = tt
 
-  -- and so is its end
-  pub shows_end : (r : Result ReportBlock X) (end : Option TxnEnd) → end ≡ Some b.end → MayEnd None b.end
-      → IfOk r (λ s. s ≡ in_report b) → IfOk r (λ s. ShowsEnd sides.leave end s.end)
-  shows_end (Ok s) end ends may is =
-      let same : b.end ≡ s.end = sym (ap (λ (x : ReportBlock). x.end) is) in
-      subst (λ l. ShowsEnd l end s.end) (sym stays) (ends ∙ ap Some same, subst (MayEnd None) same may)
-  shows_end (Err e) end ends may is = tt
+    -- and so is its end
+    pub shows_end : (r : Result ReportBlock X) → left.parts.end ≡ Some end
+        → IfOk r (λ s. s ≡ in_report h.at h.block) → IfOk r (λ s. ShowsEnd sides.leave left.parts.end s.end)
+    shows_end (Ok s) ends is =
+        let same : end ≡ s.end = sym h.leaves.end_is ∙ sym (ap (λ (x : ReportBlock). x.end) is) in
+        subst (λ l. ShowsEnd l left.parts.end s.end) (sym stays)
+        (ends ∙ ap Some same, subst (MayEnd None) same h.may)
+    shows_end (Err e) ends is = tt
 
 -- where no client leaves, a report names how a transaction may end
 pub may_report : (end : TxnEnd) → MayEnd None end → IsReported end

@@ -1,108 +1,112 @@
--- A body is taken out of its frames, piece by piece.
-use Rattle.std.proofs.Common.{◌≡◌, ℕ, ◌+◌, ◌<◌, ◌≤◌, true, List, [], ◌∷◌, ◌++◌, take, drop, length, get_or}
-use Rattle.std.proofs.Common.{refl, sym, ap, ◌∙◌, arith, append_assoc, length-append}
-use Rattle.std.proofs.lemmas.List.{append-nil, take_at, drop_at, length-drop, length-map, get_or-map}
-use Rattle.std.proofs.lemmas.List.{take_more, drop_more}
-use Rattle.std.proofs.lemmas.Grind.{flat_map-append}
-use Rattle.std.proofs.lemmas.List.Elements.{All-get_or}
+-- A body is taken out of its frames, as a reader of bodies reads it.
+use Rattle.std.proofs.Common.{◌≡◌, ◌≢◌, ◌∙◌, ℕ, ◌<◌, ◌≤◌, List, [], ◌∷◌, ◌++◌, take, drop, length}
+use Rattle.std.proofs.Common.{⊎_elim, refl, sym, ap, subst, arith, append_assoc, length-append}
+use Rattle.std.specs.Prelude.{flat_map, slice_range}
+use Rattle.std.proofs.lemmas.List.{length-drop, take-append-drop}
 use Rattle.httparse.specs.Ascii.{crlf_bytes}
-use Rattle.ts_wire.specs.declared.frames.Mode.TheVariants.{Chunked}
-use Rattle.ts_wire.specs.Frames.{IsPiece, hex, frame_of, frames, cut_body}
-use Rattle.ts_wire.specs.Limits.{piece_limit}
 use Rattle.ts_replay.specs.Unframing.{IsFramed}
+use Rattle.ts_wire.specs.Body.{BodyOf}
+use Rattle.ts_wire.specs.Frames.{cut_body, end_of, frame_of, hex}
+use Rattle.ts_wire.specs.Limits.{body_limit}
+use Rattle.ts_wire.specs.Place.{GivesBody, GoesOn, IsFed, Place, TakesBytes, state_of}
+use Rattle.ts_wire.specs.declared.body.BodyState.{BodyState}
+use Rattle.ts_wire.specs.declared.body.BodyState.TheVariants as B
+use Rattle.ts_wire.specs.declared.body.Fed.{Fed}
+use Rattle.ts_wire.specs.declared.framing.Framing.TheVariants as F
+use Rattle.ts_wire.specs.declared.frames.Mode.TheVariants.{Chunked}
+use Rattle.ts_wire.proofs.FrameLemmas.{reads_back}
+use Rattle.ts_wire.proofs.OneBody.{one_body}
+use Rattle.ts_wire.proofs.PlaceBody.{place_body}
 
--- ---- the first chunk
+-- ---- what is read of all of the frames
 
--- the chunk of a piece, and the chunks of those behind it
-chunk_first : (p : List ℕ) (ps : List (List ℕ))
-    → frames Chunked (p ∷ ps) true ≡ (hex (length p) ++ crlf_bytes) ++
-    (p ++ (crlf_bytes ++ frames Chunked ps true))
-chunk_first p ps =
-    let line = hex (length p) in
-    let others = frames Chunked ps true in
-    append_assoc (frame_of Chunked p) _ _
-    ∙ append_assoc line (crlf_bytes ++ (p ++ crlf_bytes)) others
-    ∙ ap (λ l. line ++ l) (append_assoc crlf_bytes (p ++ crlf_bytes) others ∙ ap (λ l. crlf_bytes ++ l)
-    (append_assoc p crlf_bytes others))
-    ∙ sym (append_assoc line crlf_bytes (p ++ (crlf_bytes ++ others)))
+-- a body is not longer than its chunks
+chunks_long : (pieces : List (List ℕ))
+    → length (cut_body pieces) ≤ length (flat_map (frame_of Chunked) pieces)
+chunks_long [] = omega arith
+chunks_long (p ∷ ps) =
+    let later = chunks_long ps in
+    let body = length-append p (cut_body ps) in
+    let all = length-append (frame_of Chunked p) (flat_map (frame_of Chunked) ps) in
+    let size = length-append (hex (length p)) (crlf_bytes ++ (p ++ crlf_bytes)) in
+    let line = length-append crlf_bytes (p ++ crlf_bytes) in
+    let piece = length-append p crlf_bytes in
+    omega (arith, later, body, all, size, line, piece)
 
--- the bytes begin with the chunk of a piece of this length, and the chunks of these pieces follow it
-pub record HasChunk (n : ℕ) (bytes piece : List ℕ) (behind : List (List ℕ)) : Type 0 where
-  pub size : n ≡ length piece
-  pub is : IsPiece piece
-  pub bytes_are : bytes ≡ frames Chunked (piece ∷ behind) true
+-- whatever was read of them is the body
+pub body_read : (framed body : List ℕ) (pieces : List (List ℕ)) (state : BodyState)
+    → IsFramed Chunked framed pieces → length framed ≤ body_limit → BodyOf F.Chunked framed body state
+    → body ≡ cut_body pieces
+body_read framed body pieces state is short read =
+    let long = ap length is.bytes_are
+    ∙ length-append (flat_map (frame_of Chunked) pieces) (end_of Chunked) in
+    let within = chunks_long pieces in
+    (one_body F.Chunked framed body (cut_body pieces) state B.Ended read
+    (subst (λ l. BodyOf F.Chunked l (cut_body pieces) B.Ended) (sym is.bytes_are)
+    (reads_back pieces is.each (omega (arith, short, long, within))))).0
 
--- the length is within the limit of pieces
-pub small_size : {n : ℕ} {bytes piece : List ℕ} {behind : List (List ℕ)} → HasChunk n bytes piece behind
-    → n ≤ piece_limit
-small_size h = omega (arith, h.size, h.is.1)
+-- ---- part by part
 
--- its line has so many digits
-module _ {n : ℕ} {bytes piece : List ℕ} {behind : List (List ℕ)} (h : HasChunk n bytes piece behind)
-    (digits : ℕ) (are : digits ≡ length (hex n)) where
-  -- what stands behind its line
-  behind_line : drop (digits + 2) bytes ≡ piece ++ (crlf_bytes ++ frames Chunked behind true)
-  behind_line =
-      let line : length (hex (length piece) ++ crlf_bytes) ≡ digits + 2 =
-      length-append (hex (length piece)) crlf_bytes ∙ ap (λ m. length (hex m) + 2) (sym h.size) ∙ ap
-      (λ k. k + 2) (sym are) in
-      ap (drop (digits + 2)) (h.bytes_are ∙ chunk_first piece behind)
-      ∙ drop_at (hex (length piece) ++ crlf_bytes) (piece ++ (crlf_bytes ++ frames Chunked behind true))
-      (digits + 2) line
+-- a front of the bytes was fed, which gave this body, and these are left
+pub record FedTo (framed rest body : List ℕ) (reader : Place) : Type 0 where
+  pub front : List ℕ
+  pub text : framed ≡ front ++ rest
+  pub fed : IsFed F.Chunked front body reader
 
-  -- and how much that is
-  behind_length : length (drop (digits + 2) bytes) ≡ n + 2 + length (frames Chunked behind true)
-  behind_length =
-      let all = ap length behind_line ∙ length-append piece (crlf_bytes ++ frames Chunked behind true) in
-      let rest = length-append crlf_bytes (frames Chunked behind true) in
-      omega (arith, all, rest, h.size)
+module _ (framed rest body : List ℕ) (old new : Place) (fed : Fed) (before : FedTo framed rest body old) where
+  -- what was taken stands in front of what is left
+  taken_off : framed ≡ (before.front ++ take fed.taken rest) ++ drop fed.taken rest
+  taken_off =
+      before.text ∙ ap (λ l. before.front ++ l) (sym (take-append-drop fed.taken rest))
+      ∙ sym (append_assoc before.front (take fed.taken rest) (drop fed.taken rest))
 
-  -- so the line, the piece and the end of the piece stand in the bytes
-  pub line_within : digits + 2 ≤ length bytes
-  line_within = let left = length-drop (digits + 2) bytes in omega (arith, behind_length, left)
+  -- the next part was fed
+  pub fed_more : (rest' body' : List ℕ) → rest' ≡ drop fed.taken rest
+      → body' ≡ body ++ slice_range rest fed.from fed.to
+      → GoesOn old new (take fed.taken rest) (slice_range rest fed.from fed.to) → FedTo framed rest' body' new
+  fed_more rest' body' off more goes = record {
+    front = before.front ++ take fed.taken rest;
+    text = taken_off ∙ ap (λ l. (before.front ++ take fed.taken rest) ++ l) (sym off);
+    fed = subst (λ b. IsFed F.Chunked (before.front ++ take fed.taken rest) b new) (sym more)
+        (goes F.Chunked before.front body before.fed);
+  }
 
-  pub piece_within : n ≤ length (drop (digits + 2) bytes)
-  piece_within = omega (arith, behind_length)
+  -- and less is left, where more may come
+  pub fewer_left : (rest' : List ℕ) → 0 < length rest → fed.state ≡ B.Unfinished
+      → TakesBytes old new rest fed → (state_of old.phase ≢ B.Unfinished → fed.state ≡ state_of old.phase)
+      → rest' ≡ drop fed.taken rest → length rest' < length rest
+  fewer_left rest' some goes takes stays off = by_state (state_of old.phase) refl
+    where
+      by_state : (s : BodyState) → state_of old.phase ≡ s → length rest' < length rest
+      by_state B.Unfinished is =
+          ⊎_elim
+          (λ (low : 0 < fed.taken).
+          let left = ap length off ∙ length-drop fed.taken rest in omega (arith, some, low, left))
+          (λ (other : fed.state ≢ B.Unfinished). absurd (other goes))
+          (takes.progress some is)
+      by_state B.Ended is =
+          absurd (let wrong : B.Unfinished ≡ B.Ended = sym goes ∙ stays (λ e. let both : B.Ended
+          ≡ B.Unfinished
+          = sym is ∙ e in cc) ∙ is in cc)
+      by_state B.Bad is =
+          absurd (let wrong : B.Unfinished ≡ B.Bad = sym goes ∙ stays (λ e. let both : B.Bad ≡ B.Unfinished
+          = sym is ∙ e in cc) ∙ is in cc)
 
-  pub end_within : 2 ≤ length (drop n (drop (digits + 2) bytes))
-  end_within = let left = length-drop n (drop (digits + 2) bytes) in omega (arith, behind_length, left)
+  -- where no more comes, the body is that of all bytes
+  pub stopped : (body' : List ℕ) → body' ≡ body ++ slice_range rest fed.from fed.to
+      → (fed.state ≡ B.Unfinished → ⊥)
+      → GivesBody old (take fed.taken rest) (slice_range rest fed.from fed.to) fed.state
+      → BodyOf F.Chunked framed body' fed.state
+  stopped body' more other gives =
+      subst (λ l. BodyOf F.Chunked l body' fed.state) (sym taken_off)
+      (subst (λ b. BodyOf F.Chunked ((before.front ++ take fed.taken rest) ++ drop fed.taken rest) b
+      fed.state)
+      (sym more) (gives F.Chunked before.front body (drop fed.taken rest) before.fed (λ e. absurd (other e))))
 
-  -- between line and end stands the piece
-  pub piece_is : take n (drop (digits + 2) bytes) ≡ piece
-  piece_is = ap (take n) behind_line ∙ take_at piece (crlf_bytes ++ frames Chunked behind true) n (sym h.size)
-
-  -- and behind the end the other chunks
-  pub others_are : drop 2 (drop n (drop (digits + 2) bytes)) ≡ frames Chunked behind true
-  others_are =
-      ap (drop 2) (ap (drop n) behind_line ∙ drop_at piece (crlf_bytes ++ frames Chunked behind true) n
-      (sym h.size))
-      ∙ drop_at crlf_bytes (frames Chunked behind true) 2 refl
-
--- ---- piece by piece
-
-module _ (cuts bytes : List ℕ) (pieces : List (List ℕ)) (h : IsFramed Chunked cuts bytes pieces) where
-  -- there is a cut for each piece
-  as_many : length pieces ≡ length cuts
-  as_many = sym (ap length h.cuts_are ∙ length-map pieces (λ p. length p))
-
-  -- the next chunk of what is left
-  pub next_chunk : (i : ℕ) (rest : List ℕ) → i < length cuts → rest ≡ frames Chunked (drop i pieces) true
-      → HasChunk (get_or cuts i 0) rest (get_or pieces i []) (drop (i + 1) pieces)
-  next_chunk i rest lt is =
-      let within : i < length pieces = omega (arith, as_many, lt) in
-      record {
-        size = ap (λ l. get_or l i 0) h.cuts_are ∙ get_or-map (λ p. length p) pieces i [] 0 within;
-        is = All-get_or IsPiece pieces i [] within h.each;
-        bytes_are = is ∙ ap (λ ps. frames Chunked ps true) (drop_more pieces i [] within);
-      }
-
-  -- the body with the next piece
-  pub body_more : (i : ℕ) (body piece : List ℕ) → i < length cuts → body ≡ cut_body (take i pieces)
-      → piece ≡ get_or pieces i []
-      → body ++ piece ≡ cut_body (take (i + 1) pieces)
-  body_more i body piece lt is next =
-      let within : i < length pieces = omega (arith, as_many, lt) in
-      ap (λ b. b ++ piece) is ∙ ap (λ p. cut_body (take i pieces) ++ p)
-      (next ∙ sym (append-nil (get_or pieces i [])))
-      ∙ sym (ap cut_body (take_more pieces i [] within) ∙ flat_map-append (λ p. p) (take i pieces)
-      (get_or pieces i [] ∷ []))
+-- and so it is where nothing is left
+pub all_fed : (framed rest body : List ℕ) (reader : Place) → FedTo framed rest body reader → rest ≡ []
+    → BodyOf F.Chunked framed body (state_of reader.phase)
+all_fed framed rest body reader all none =
+    subst (λ l. BodyOf F.Chunked l body (state_of reader.phase)) (sym all.text)
+    (place_body F.Chunked all.front body reader.held reader.phase reader.total all.fed.stands all.fed.counted
+    all.fed.sound rest (λ goes. none))

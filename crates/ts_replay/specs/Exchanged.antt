@@ -1,28 +1,33 @@
 -- A recorded transaction that has ended, and what it left.
-use Rattle.std.specs.Prelude.{◌≡◌, ◌⊎◌, ℕ, ◌<◌, List, [], ◌∷◌, ◌++◌, length, map, All, Bool, true, false}
+use Rattle.std.specs.Prelude.{◌≡◌, ℕ, ◌<◌, List, [], ◌∷◌, ◌++◌, length, All, Bool, true, false}
 use Rattle.std.specs.Prelude.{IsSomeAnd, None, Option, Some, take, ⊤}
 use Rattle.ts_block.specs.Sent.{HasPlainRules}
 use Rattle.ts_config.specs.declared.setup.Setup.{Setup}
 use Rattle.ts_group.specs.declared.either.Either.TheVariants.{One, Other}
 use Rattle.ts_exchange.specs.Ends.{Ends}
-use Rattle.ts_exchange.specs.Left.{Exchanges, IsBetween}
 use Rattle.ts_hooks.specs.declared.txn_end.TxnEnd.{TxnEnd}
 use Rattle.ts_hooks.specs.declared.txn_end.TxnEnd.TheVariants as E
 use Rattle.ts_journal.specs.State.{State}
+use Rattle.ts_layers.specs.Layers.{IsLayeredBetween, LayeredExchanges}
+use Rattle.ts_layers.specs.declared.layers.PlainExchange.{PlainExchange}
 use Rattle.ts_journal.specs.declared.entry.TheConstants.{GREATEST}
 use Rattle.ts_link.specs.Link.{Look, Plan}
 use Rattle.ts_link.specs.MemLink.{LinkState, look_of}
 use Rattle.ts_record.specs.Report.{IsReported}
 use Rattle.ts_record.specs.declared.report.ReportBlock.{ReportBlock}
+use Rattle.ts_replay.specs.AtOrigin.{none_there}
+use Rattle.ts_replay.specs.declared.at_origin.AtOrigin.{AtOrigin}
 use Rattle.ts_replay.specs.Recorded.{Recorded, RowWorld, TakesSome, recorded_origin}
 use Rattle.ts_replay.specs.Reports.{BothSides, IsShownOf}
+use Rattle.ts_replay.specs.Unframing.{IsFramed}
 use Rattle.ts_stock.specs.StockTransform.{stock_transform}
 use Rattle.ts_txn.specs.Making.{end_of_course}
 use Rattle.ts_block.specs.declared.block.Block.{Block}
 use Rattle.ts_txn.specs.declared.making.TxnParts.{TxnParts}
 use Rattle.ts_upstream.specs.InMemory.{memory_link}
-use Rattle.ts_wire.specs.Blank.{EndsBlank}
+use Rattle.ts_wire.specs.Blank.{EndsBlank, LacksBlank}
 use Rattle.ts_wire.specs.Frames.{IsPiece, cut_body, frames}
+use Rattle.ts_wire.specs.declared.frames.Mode.{Mode}
 
 -- how many bytes a link takes in all, where it leaves
 abbrev pub leave_told : Option Plan → Option ℕ
@@ -32,8 +37,8 @@ leave_told (Some p) = p.leave
 abbrev pub leave_of : Look → Option ℕ
 leave_of l = leave_told l.plan
 
--- These ends are of this setup, whose header rules leave alone what the proxy sees to itself, and two sides that
--- give these bytes, of which the client leaves or stays.
+-- These ends are of this setup, whose header rules leave alone what the proxy sees to itself, and two sides
+-- that give these bytes, of which the client leaves or stays.
 pub record AreEndsOf (setup : Setup) (sides : BothSides) (ends : Ends LinkState LinkState) : Type 0 where
   pub setup_is : ends.setup ≡ setup
   pub plain : HasPlainRules setup
@@ -45,32 +50,42 @@ pub record AreEndsOf (setup : Setup) (sides : BothSides) (ends : Ends LinkState 
   pub answers : (look_of origin).source ≡ sides.origin
   pub stays : leave_of (look_of origin) ≡ None
 
--- The transaction is one between such ends. It was started, nothing of its group is pending, the group has an
--- event number left, and what is to hold of it holds.
+-- The transaction is one between such ends with their layers. It was started, nothing of its group is
+-- pending, the group has an event number left, and what is to hold of it holds.
 pub record IsRunBetween (setup : Setup) (sides : BothSides) (t : Recorded) : Type 0 where
   pub ends : Ends LinkState LinkState
   pub ends_are : AreEndsOf setup sides ends
   pub state : State
   pub idle : state.pending ≡ []
   pub numbers : state.next < GREATEST
-  pub between : IsBetween memory_link memory_link recorded_origin stock_transform ends true t state
+  pub between : IsLayeredBetween memory_link memory_link recorded_origin stock_transform ends true t state
 
 -- what is left of such a transaction
-pub record IsLeftBetween (setup : Setup) (sides : BothSides) (parts : TxnParts LinkState LinkState)
+pub record IsLeftBetween (setup : Setup) (sides : BothSides) (left : PlainExchange LinkState LinkState)
     : Type 0 where
   pub ends : Ends LinkState LinkState
   pub ends_are : AreEndsOf setup sides ends
   pub state : State
   pub idle : state.pending ≡ []
   pub numbers : state.next < GREATEST
-  pub exchanges : Exchanges memory_link memory_link recorded_origin ends true state parts
+  pub exchanges : LayeredExchanges memory_link memory_link recorded_origin stock_transform ends true
+      state left
 
--- an origin took this request, behind which there is at most an upload
-pub record HasTaken (origin : LinkState) (request : List ℕ) : Type 0 where
-  pub upload : List ℕ
-  pub text : origin.taken ≡ request ++ upload
-  pub nothing : request ≡ [] → upload ≡ []
-  pub ends : (request ≡ []) ⊎ EndsBlank request
+-- Behind the head at the origin stands this body, as it was delivered there, if it was: in pieces in their
+-- frames, with its end.
+abbrev pub StandsBehind : Option Mode → Option (List ℕ) → List ℕ → Type 0
+StandsBehind None None bytes = ⊤
+StandsBehind None (Some body) bytes = ⊥
+StandsBehind (Some mode) None bytes = ⊥
+StandsBehind (Some mode) (Some body) bytes =
+    (pieces : List (List ℕ)) × IsFramed mode bytes pieces × (cut_body pieces ≡ body)
+
+-- This is at an origin that took these bytes: a head and what stands behind it; or nothing, where no head is
+-- whole.
+pub data HasTaken (taken : List ℕ) (mode : Option Mode) (at : AtOrigin) : Type 0 where
+  no_head : LacksBlank taken → at ≡ none_there → HasTaken taken mode at
+  head : (behind : List ℕ) → EndsBlank at.request → taken ≡ at.request ++ behind
+      → StandsBehind mode at.upload behind → HasTaken taken mode at
 
 -- the client took the head of the block, and behind it this much of a body in pieces in their frames, with
 -- its end or without
@@ -80,7 +95,6 @@ pub record HasGot (parts : TxnParts LinkState LinkState) (b : Block) (sent : Lis
   pub each : All IsPiece pieces
   pub text : parts.client.taken ≡ b.head ++ frames parts.mode pieces fin
   pub head : parts.head ≡ length b.head
-  pub cuts : parts.cuts.items ≡ map length pieces
   pub body : cut_body pieces ≡ sent
 
 -- by the end: the whole body, or some of it
@@ -88,19 +102,20 @@ abbrev pub GotBy : TxnEnd → TxnParts LinkState LinkState → Block → Type 0
 GotBy E.Whole parts b = HasGot parts b b.body true
 GotBy other parts b = (b.body ≡ []) × ((sent : List ℕ) × HasGot parts b sent false)
 
--- a transaction between this origin and its client that has ended so came to this block
-pub record LeavesBlock (parts : TxnParts LinkState LinkState) (origin : LinkState) (end : TxnEnd)
-    (b : Block) : Type 0 where
+-- a transaction between this origin and its client that has ended so came to this block, and this is at the
+-- origin
+pub record LeavesBlock (left : PlainExchange LinkState LinkState) (origin : LinkState) (end : TxnEnd)
+    (at : AtOrigin) (b : Block) : Type 0 where
   pub end_is : b.end ≡ end
-  pub taken : HasTaken origin b.request
-  pub got : GotBy end parts b
+  pub taken : HasTaken origin.taken left.upload at
+  pub got : GotBy end left.parts b
 
--- A transaction between this origin and a client that leaves after so many bytes sent these heads: the origin
--- took the one, and the client the first so many bytes of the other, or all of it.
-pub record LeavesHeads (parts : TxnParts LinkState LinkState) (origin : LinkState) (most : ℕ)
-    (request head : List ℕ) : Type 0 where
-  pub taken : HasTaken origin request
-  pub got : take parts.head parts.client.taken ≡ take most head
+-- A transaction between this origin and a client that leaves after so many bytes sent this head: the client
+-- took the first so many bytes of it, or all of it; and this is at the origin.
+pub record LeavesHeads (left : PlainExchange LinkState LinkState) (origin : LinkState) (most : ℕ)
+    (at : AtOrigin) (head : List ℕ) : Type 0 where
+  pub taken : HasTaken origin.taken left.upload at
+  pub got : take left.parts.head left.parts.client.taken ≡ take most head
 
 -- ---- what is shown of it
 

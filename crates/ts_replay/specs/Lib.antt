@@ -1,3 +1,4 @@
+pub mod AtOrigin
 pub mod Exchanged
 pub mod Heads
 pub mod Members

@@ -5,7 +5,7 @@ use Rattle.ts_block.specs.Sent.{HasPlainRules}
 use Rattle.ts_config.specs.Reading.{AreFew}
 use Rattle.ts_config.specs.Setup.{lines_of}
 use Rattle.ts_config.specs.declared.setup.Setup.{Setup}
-use Rattle.ts_exchange.specs.Ends.{Ends, IsTagBetween}
+use Rattle.ts_exchange.specs.Ends.{Ends}
 use Rattle.ts_exchange.specs.Rows as rows
 use Rattle.ts_exchange.specs.declared.exchange.Promise.{Promise}
 use Rattle.ts_group.specs.Either.{OfBoth}
@@ -13,11 +13,15 @@ use Rattle.ts_group.specs.declared.action.Named.{Named}
 use Rattle.ts_group.specs.declared.either.EitherTag.TheVariants as kind
 use Rattle.ts_journal.specs.State.{State}
 use Rattle.ts_journal.specs.declared.entry.Pending.{Pending}
-use Rattle.ts_link.specs.MemLink.{LinkState, look_of}
+use Rattle.ts_layers.specs.Layers.{IsLayeredTag, carrier_link, carrier_origin, front_link}
+use Rattle.ts_link.specs.MemLink.{LinkState}
+use Rattle.ts_link.specs.declared.link.Link as link
 use Rattle.ts_plugin.specs.Lines.{AreOrdered}
 use Rattle.ts_record.specs.Grammar.{TxnPieces}
 use Rattle.ts_record.specs.Links.{recorded_side}
 use Rattle.ts_replay.specs.Members.{HookPlugin, Member, Transaction}
+use Rattle.ts_request.specs.Front.{FrontSeen}
+use Rattle.ts_request.specs.declared.carrier.Carrier.{Carrier}
 use Rattle.ts_stock.specs.StockTransform.{stock_transform}
 use Rattle.ts_stock.specs.declared.stock.State.{State as StockState}
 use Rattle.ts_txn.specs.World.{HasTxnBegun, IsSoundTxn, IsTxnOf}
@@ -27,25 +31,33 @@ use Rattle.ts_upstream.specs.InMemory.{memory_link}
 use Rattle.ts_upstream.specs.Uploads.{MovesNothing}
 use Rattle.ts_upstream.specs.declared.upstream.Upstream as upstream
 
--- a transaction between two recorded sides, whose body goes through stock transforms, and the tag of its slot
+-- the client of a recorded transaction and its origin, each a recorded side with its layer over it
+abbrev pub RecordedFront : Type 0
+RecordedFront = FrontSeen LinkState
+
+abbrev pub RecordedCarrier : Type 0
+RecordedCarrier = Carrier LinkState StockState
+
+-- a transaction between two recorded sides with their layers, both of whose bodies go through stock
+-- transforms, and the tag of its slot
 abbrev pub Recorded : Type 0
-Recorded = Txn LinkState LinkState StockState
+Recorded = Txn RecordedFront RecordedCarrier StockState
 
 abbrev pub RecordedTag : Type 0
-RecordedTag = TxnTag LinkState LinkState
+RecordedTag = TxnTag RecordedFront RecordedCarrier
 
 -- the world of a group in the row: a transaction or a hook plugin
 abbrev pub RowWorld : Type 0
-RowWorld = rows.RowWorld LinkState LinkState StockState
+RowWorld = rows.RowWorld RecordedFront RecordedCarrier StockState
 
 abbrev pub RowTag : Type 0
-RowTag = rows.RowTag LinkState LinkState
+RowTag = rows.RowTag RecordedFront RecordedCarrier
 
 abbrev pub RowGroup : Type 0
-RowGroup = rows.RowGroup LinkState LinkState StockState
+RowGroup = rows.RowGroup RecordedFront RecordedCarrier StockState
 
--- a setup has no more lines than a configuration, its header rules leave alone what the proxy sees to itself, and
--- its plugin lines stand in the order in which they act
+-- a setup has no more lines than a configuration, its header rules leave alone what the proxy sees to
+-- itself, and its plugin lines stand in the order in which they act
 pub record HasPlainLines (setup : Setup) : Type 0 where
   pub few : AreFew (lines_of setup)
   pub plain : HasPlainRules setup
@@ -81,7 +93,7 @@ recorded_promise = record { is_sure = true; is_first = true }
 -- before it leaves, if it does.
 pub record IsTagOf (setup : Setup) (at number : ℕ) (txn : TxnPieces) (started : Bool)
     (tag : RecordedTag) : Type 0 where
-  pub between : IsTagBetween (recorded_ends setup at number txn) recorded_promise started tag
+  pub between : IsLayeredTag (recorded_ends setup at number txn) recorded_promise started tag
   pub takes_some : TakesSome txn.leave
 
 -- the tag is that of a member of the row, of a transaction that was not started
@@ -93,7 +105,7 @@ IsNewTagOf setup at (HookPlugin line) (kind.Other p) = p.line.value ≡ line
 
 -- ---- what is to hold
 
--- a recorded side as the link to an origin, which refuses no upload and has none left
+-- a recorded side as the link to an origin, which refuses no upload of its own and has none left
 abbrev pub recorded_origin : upstream.Ghosts LinkState LinkState
 recorded_origin = record {
   paired = λ c o. ⊤;
@@ -102,14 +114,24 @@ recorded_origin = record {
   upload_left = λ c o. Some 0;
 }
 
+-- the two links of a recorded transaction with their layers, and the uploads between them
+abbrev pub layered_client : link.Ghosts RecordedFront
+layered_client = front_link memory_link
+
+abbrev pub layered_link : link.Ghosts RecordedCarrier
+layered_link = carrier_link memory_link
+
+abbrev pub layered_origin : upstream.Ghosts RecordedCarrier RecordedFront
+layered_origin = carrier_origin memory_link memory_link recorded_origin stock_transform
+
 -- the transaction is the one that the tag names
 abbrev pub IsOfTag : RecordedTag → Recorded → Type 0
-IsOfTag = IsTxnOf memory_link memory_link
+IsOfTag = IsTxnOf layered_client layered_link
 
 -- what is to hold of it holds, where these events are pending and this event number is next
 abbrev pub IsSoundWith : Recorded → List Pending → ℕ → List Named → Type 0
 IsSoundWith t pending next roles =
-    IsSoundTxn memory_link memory_link recorded_origin stock_transform t pending next roles
+    IsSoundTxn layered_client layered_link layered_origin stock_transform t pending next roles
 
 -- and in a journal's state
 abbrev pub IsSoundRecorded : Recorded → State → List Named → Type 0
@@ -117,11 +139,11 @@ IsSoundRecorded t s roles = IsSoundWith t s.pending s.next roles
 
 -- the world is the one that the tag names: that transaction, or the plugin of that line
 abbrev pub IsOfRowTag : RowTag → RowWorld → Type 0
-IsOfRowTag = rows.FitsRow memory_link memory_link recorded_origin stock_transform
+IsOfRowTag = rows.FitsRow layered_client layered_link layered_origin stock_transform
 
 -- what is to hold of it holds in a journal's state
 abbrev pub IsSoundRow : RowWorld → State → List Named → Type 0
-IsSoundRow = rows.IsSoundRow memory_link memory_link recorded_origin stock_transform
+IsSoundRow = rows.IsSoundRow layered_client layered_link layered_origin stock_transform
 
 -- a transaction was started, and a plugin stays as it is
 abbrev pub HasRowBegun : RowWorld → RowWorld → Type 0
@@ -129,8 +151,8 @@ HasRowBegun = OfBoth HasTxnBegun (λ old new. new ≡ old)
 
 -- its group fits the tag
 abbrev pub FitsIn : RowTag → RowGroup → Type 0
-FitsIn = rows.FitsIn memory_link memory_link recorded_origin stock_transform
+FitsIn = rows.FitsIn layered_client layered_link layered_origin stock_transform
 
 -- groups fit tags, each the tag at its place
 abbrev pub FitInRow : List RowTag → List RowGroup → Type 0
-FitInRow = rows.FitInRow memory_link memory_link recorded_origin stock_transform
+FitInRow = rows.FitInRow layered_client layered_link layered_origin stock_transform

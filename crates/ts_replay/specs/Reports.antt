@@ -1,5 +1,5 @@
 -- The blocks that the transactions of a recording come to, and the report that is made of them.
-use Rattle.std.specs.Prelude.{◌≡◌, ℕ, List, [], take, true, false, Option, None, Some}
+use Rattle.std.specs.Prelude.{◌≡◌, ℕ, List, [], take, true, Option, None, Some}
 use Rattle.std.specs.List.{AllZip}
 use Rattle.ts_config.specs.Setup.{ConfigLines, lines_of}
 use Rattle.ts_config.specs.declared.setup.Setup.{Setup}
@@ -10,7 +10,11 @@ use Rattle.ts_record.specs.Report.{report_text}
 use Rattle.ts_record.specs.declared.report.ReportBlock.{ReportBlock}
 use Rattle.ts_block.specs.Block.{IsBlock}
 use Rattle.ts_block.specs.declared.block.Block.{Block}
+use Rattle.ts_replay.specs.AtOrigin.{StandsAt}
 use Rattle.ts_replay.specs.Heads.{SendsHeads}
+use Rattle.ts_replay.specs.declared.at_origin.AtOrigin.{AtOrigin}
+use Rattle.ts_request.specs.Sent.{RefusesUpload}
+use Rattle.ts_request.specs.Upload.{Strips}
 
 -- What is known of the two sides of a transaction: all bytes that each sends, and how many the client takes,
 -- where it leaves.
@@ -26,42 +30,51 @@ sides_of txn =
 
 -- ---- one transaction
 
--- a block as a report shows it
-abbrev pub in_report : Block → ReportBlock
-in_report b = record {
-  request = b.request;
-  upload = None;
+-- a block, and what stands at the origin, as a report shows them
+abbrev pub in_report : AtOrigin → Block → ReportBlock
+in_report at b = record {
+  request = at.request;
+  upload = at.upload;
   end = b.end;
   head = b.head;
   content = b.body;
   tap = None;
 }
 
--- what a report shows where the client left after so many bytes: the request, and what it got of the head
-abbrev pub left_report : ℕ → List ℕ → List ℕ → ReportBlock
-left_report most request head = record {
-  request = request;
-  upload = None;
+-- what a report shows where the client left after so many bytes: what stands at the origin, and what the
+-- client got of the head
+abbrev pub left_report : ℕ → AtOrigin → List ℕ → ReportBlock
+left_report most at head = record {
+  request = at.request;
+  upload = at.upload;
   end = E.ClientFault;
   head = take most head;
   content = [];
   tap = None;
 }
 
--- What is shown of a transaction whose client stays: the block of all that the two sides give, each followed
--- by its end.
+-- What is shown of a transaction whose client stays: the block of all that is shown of the client and all
+-- that the origin gives, each followed by its end, and what stands at the origin.
 pub record IsShownWhole (setup : Setup) (client origin : List ℕ) (b : ReportBlock) : Type 0 where
+  pub shown : List ℕ
+  pub strips : Strips client shown
   pub block : Block
-  pub is_block : IsBlock setup true (false ≡ true) origin client block
-  pub shows : b ≡ in_report block
+  pub is_block : IsBlock setup true (RefusesUpload setup.requests.items client) origin shown block
+  pub at : AtOrigin
+  pub stands : StandsAt setup.requests.items client block.request at
+  pub shows : b ≡ in_report at block
 
--- What is shown of one whose client leaves after so many bytes, whatever its end: the request of that block,
--- and the first so many bytes of its head.
+-- What is shown of one whose client leaves after so many bytes, whatever its end: what stands at the origin,
+-- and the first so many bytes of that block's head.
 pub record IsShownLeft (setup : Setup) (client origin : List ℕ) (most : ℕ) (b : ReportBlock) : Type 0 where
+  pub shown : List ℕ
+  pub strips : Strips client shown
   pub request : List ℕ
   pub head : List ℕ
-  pub sends : SendsHeads setup client origin request head
-  pub shows : b ≡ left_report most request head
+  pub sends : SendsHeads setup (RefusesUpload setup.requests.items client) shown origin request head
+  pub at : AtOrigin
+  pub stands : StandsAt setup.requests.items client request at
+  pub shows : b ≡ left_report most at head
 
 abbrev pub IsShownBy : Option ℕ → Setup → List ℕ → List ℕ → ReportBlock → Type 0
 IsShownBy None setup client origin b = IsShownWhole setup client origin b

@@ -1,55 +1,35 @@
 //! What a recorded transaction came to that has ended: its block, as the report shows it.
 
-ghost use Rattle.std.specs.Prelude.{◌≡◌, ◌≢◌, ◌++◌, ℕ, List, [], IfOk};
+ghost use Rattle.std.specs.Prelude.{◌≡◌, ◌≢◌, ℕ, List, [], IfOk};
 ghost use Rattle.ts_config.specs.declared.setup.Setup.{Setup as SetupOf};
 ghost use Rattle.ts_record.specs.Report.{IsReported};
-ghost use Rattle.ts_replay.specs.Exchanged.{HasTaken, IsLeftBetween, IsRunBetween};
+ghost use Rattle.ts_replay.specs.Exchanged.{IsLeftBetween, IsRunBetween};
 ghost use Rattle.ts_replay.specs.Exchanged.{LeavesBlock, LeavesHeads, ShowsEnd};
 ghost use Rattle.ts_replay.specs.Reports.{BothSides, IsShownOf, in_report, left_report};
 ghost use Rattle.ts_replay.specs.Unframing.{IsFramed};
 ghost use Rattle.ts_txn.specs.Making.{end_of_course};
 ghost use Rattle.ts_block.specs.declared.block.Block.{Block};
-ghost use Rattle.ts_wire.specs.Blank.{EndsBlank};
 ghost use Rattle.ts_wire.specs.Frames.{cut_body};
 
+use crate::at_origin::{AtOrigin, at_origin};
 use crate::framed::unframed;
-use memchr::memmem;
 use std::alloc::Global;
-use ts_exchange::{Exchange, take_apart};
 use ts_hooks::TxnEnd;
+use ts_layers::{LayeredExchange, PlainExchange, take_layered_apart};
 use ts_link::{NoMemory, Octets, Sourced};
 use ts_record::{RecordedLink, ReportBlock};
 use ts_stock::Stock;
 use ts_txn::TxnParts;
 
-// The end of the last field of a head, and its empty line.
-const BLANK_END: &[u8] = b"\r\n\r\n";
-
-/// A transaction between two recorded sides, whose body goes through stock transforms.
-pub type Recorded = Exchange<RecordedLink, RecordedLink, Stock>;
+/// A transaction between two recorded sides, whose response's body and whose request's go through stock
+/// transforms.
+pub type Recorded = LayeredExchange<RecordedLink, RecordedLink, Stock>;
 
 // What is left of one.
+type RecordedLeft = PlainExchange<RecordedLink, RecordedLink>;
+
+// Its parts.
 type RecordedParts = TxnParts<RecordedLink, RecordedLink>;
-
-// The head at the front of the bytes: all of them, where no empty line ends one.
-fn first_head(bytes: &[u8]) -> &[u8]
-    ensures head { (head behind : List ℕ) → bytes.now ≡ head ++ behind → EndsBlank head
-        → result.now ≡ head }
-    ensures none { bytes.now ≡ [] → result.now ≡ [] }
-{
-    match memmem::find(bytes, BLANK_END) {
-        Some(place) => bytes.split_at(place + BLANK_END.len()).0,
-        None => bytes,
-    }
-}
-
-// The head that the origin was sent. A recorded side moves no upload, but no clause of a transaction says so:
-// the request is cut at its empty line.
-fn request_of(alloc: Global, origin: &RecordedLink) -> Result<Octets, NoMemory>
-    ensures { (request : List ℕ) → HasTaken origin.now request → IfOk result (λ head. head ≡ request) }
-{
-    Octets::copy_of(alloc, first_head(origin.written()))
-}
 
 // The body that the client was sent behind its head. It is shown only where it is whole.
 fn content_of(
@@ -59,14 +39,13 @@ fn content_of(
     framed: &[u8],
 ) -> Result<Octets, NoMemory>
     requires framed { end ≡ TxnEnd.Whole → (pieces : List (List ℕ))
-        × IsFramed parts.now.mode parts.now.cuts.items framed.now pieces }
+        × IsFramed parts.now.mode framed.now pieces }
     ensures whole { end ≡ TxnEnd.Whole → (pieces : List (List ℕ))
-        → IsFramed parts.now.mode parts.now.cuts.items framed.now pieces
-        → IfOk result (λ body. body ≡ cut_body pieces) }
+        → IsFramed parts.now.mode framed.now pieces → IfOk result (λ body. body ≡ cut_body pieces) }
     ensures short { end ≢ TxnEnd.Whole → IfOk result (λ body. body ≡ []) }
 {
     match end {
-        TxnEnd::Whole => unframed(alloc, parts.mode, parts.cuts.as_slice(), framed),
+        TxnEnd::Whole => unframed(alloc, parts.mode, framed),
         _ => Ok(Octets::of_vec(Vec::new(alloc))),
     }
 }
@@ -74,20 +53,22 @@ fn content_of(
 // What a transaction came to that has ended so.
 fn block_of(
     alloc: Global,
-    parts: &RecordedParts,
+    left: &RecordedLeft,
     origin: &RecordedLink,
     end: TxnEnd,
 ) -> Result<ReportBlock, NoMemory>
-    requires block { (b : Block) × LeavesBlock parts.now origin.now end b }
-    ensures { (b : Block) → LeavesBlock parts.now origin.now end b → IfOk result (λ s. s ≡ in_report b) }
+    requires block { (at : AtOrigin) × (b : Block) × LeavesBlock left.now origin.now end at b }
+    ensures { (at : AtOrigin) (b : Block) → LeavesBlock left.now origin.now end at b
+        → IfOk result (λ s. s ≡ in_report at b) }
 {
-    let request = request_of(alloc, origin)?;
+    let AtOrigin { request, upload } = at_origin(alloc, origin.written(), left.upload)?;
+    let parts = &left.parts;
     let (head, framed) = parts.client.written().split_at(parts.head as usize);
     let head = Octets::copy_of(alloc, head)?;
     let content = content_of(alloc, parts, end, framed)?;
     Ok(ReportBlock {
         request,
-        upload: None,
+        upload,
         end,
         head,
         content,
@@ -99,21 +80,22 @@ fn block_of(
 // shown within the head alone, so that it does not matter how the body was cut.
 fn block_before(
     alloc: Global,
-    parts: &RecordedParts,
+    left: &RecordedLeft,
     origin: &RecordedLink,
 ) -> Result<ReportBlock, NoMemory>
-    requires heads { (most : ℕ) × (request : List ℕ) × (head : List ℕ)
-        × LeavesHeads parts.now origin.now most request head }
-    ensures { (most : ℕ) (request head : List ℕ) → LeavesHeads parts.now origin.now most request head
-        → IfOk result (λ s. s ≡ left_report most request head) }
+    requires heads { (most : ℕ) × (at : AtOrigin) × (head : List ℕ)
+        × LeavesHeads left.now origin.now most at head }
+    ensures { (most : ℕ) (at : AtOrigin) (head : List ℕ) → LeavesHeads left.now origin.now most at head
+        → IfOk result (λ s. s ≡ left_report most at head) }
 {
-    let request = request_of(alloc, origin)?;
+    let AtOrigin { request, upload } = at_origin(alloc, origin.written(), left.upload)?;
+    let parts = &left.parts;
     let written = parts.client.written();
     let shown = (parts.head as usize).min(written.len());
     let head = Octets::copy_of(alloc, written.split_at(shown).0)?;
     Ok(ReportBlock {
         request,
-        upload: None,
+        upload,
         end: TxnEnd::ClientFault,
         head,
         content: Octets::of_vec(Vec::new(alloc)),
@@ -121,28 +103,34 @@ fn block_before(
     })
 }
 
-// What a transaction came to that left these parts.
-fn block_left(alloc: Global, parts: &RecordedParts) -> Result<ReportBlock, NoMemory>
-    requires left { (setup : SetupOf) × (sides : BothSides) × IsLeftBetween setup sides parts.now }
-    ensures shown { (setup : SetupOf) (sides : BothSides) → IsLeftBetween setup sides parts.now
+// What a transaction came to that left this. Once it has ended it is known what was shown of its client, and
+// nothing waits for its origin; no clause of a transaction says so, and where it were otherwise, it is as if
+// memory lacked.
+fn block_left(alloc: Global, left: &RecordedLeft) -> Result<ReportBlock, NoMemory>
+    requires left { (setup : SetupOf) × (sides : BothSides) × IsLeftBetween setup sides left.now }
+    ensures shown { (setup : SetupOf) (sides : BothSides) → IsLeftBetween setup sides left.now
         → IfOk result (IsShownOf setup sides) }
-    ensures ended { (setup : SetupOf) (sides : BothSides) → IsLeftBetween setup sides parts.now
-        → IfOk result (λ b. ShowsEnd sides.leave parts.now.end b.end) }
+    ensures ended { (setup : SetupOf) (sides : BothSides) → IsLeftBetween setup sides left.now
+        → IfOk result (λ b. ShowsEnd sides.leave left.now.parts.end b.end) }
     ensures reported { IfOk result (λ b. IsReported b.end) }
 {
+    let parts = &left.parts;
     let Some(origin) = &parts.origin else {
         unreachable!()
     };
     parts.client.known();
     origin.known();
     let Some(end) = parts.end else { unreachable!() };
+    if !left.settled {
+        return Err(NoMemory);
+    }
     match end {
         TxnEnd::NoMemory => Err(NoMemory),
         _ => {
             if parts.client.leaves() {
-                return block_before(alloc, parts, origin);
+                return block_before(alloc, left, origin);
             }
-            block_of(alloc, parts, origin, end)
+            block_of(alloc, left, origin, end)
         }
     }
 }
@@ -157,6 +145,6 @@ pub fn block_after(alloc: Global, txn: Recorded) -> Result<ReportBlock, NoMemory
         → IfOk result (λ b. ShowsEnd sides.leave (end_of_course txn.course) b.end) }
     ensures reported { IfOk result (λ b. IsReported b.end) }
 {
-    let parts = take_apart(txn);
-    block_left(alloc, &parts)
+    let left = take_layered_apart(txn);
+    block_left(alloc, &left)
 }

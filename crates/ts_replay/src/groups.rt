@@ -11,20 +11,21 @@ use std::alloc::Global;
 use std::collections::VecDeque;
 use std::sync::Arc;
 use ts_config::Setup;
-use ts_exchange::{ExchangeSetting, Promise, add_plugins, make_group};
+use ts_exchange::{ExchangeSetting, Promise, add_plugins};
 use ts_group::{EitherTag, Group};
+use ts_layers::{LayeredRow, LayeredRowTag, LayeredWorld, make_layered_group};
 use ts_link::NoMemory;
 use ts_record::{MOST_TXNS, RecordedLink, RecordedTxn};
 use ts_stock::Stock;
 
-/// The world of a group in the row of a replay: a transaction, or the plugin of a line.
-pub type RowWorld = ts_exchange::RowWorld<RecordedLink, RecordedLink, Stock>;
+/// The world of a group in the row of a replay: a transaction with its layers, or the plugin of a line.
+pub type RowWorld = LayeredWorld<RecordedLink, RecordedLink, Stock>;
 
 /// What a slot promises of it.
-pub type RowTag = ts_exchange::RowTag<RecordedLink, RecordedLink>;
+pub type RowTag = LayeredRowTag<RecordedLink, RecordedLink, Stock>;
 
 /// Groups in their order, each with the tag of its slot.
-pub type GroupRow = ts_exchange::GroupRow<RecordedLink, RecordedLink, Stock>;
+pub type GroupRow = LayeredRow<RecordedLink, RecordedLink, Stock>;
 
 // The tag of a recorded transaction says that no call of its links fails or waits by its number, and that its
 // slot had no other tenant.
@@ -55,7 +56,7 @@ fn make_txn(
     } = txn;
     let client = RecordedLink::make(alloc, client, leave);
     let origin = Some(RecordedLink::make(alloc, origin, None));
-    let (group, tag) = make_group(alloc, setting, number, PROMISE, client, origin)?;
+    let (group, tag) = make_layered_group(alloc, setting, number, PROMISE, client, origin)?;
     Ok((group, EitherTag::One(tag)))
 }
 

@@ -1,5 +1,6 @@
 //! The room in which a recording is run: each of its transactions is a mutex group that event threads run and
-//! that is then driven to its end, and comes to a block, of which a report is made.
+//! that is then driven to its end, and comes to a block, of which a report is made. The body of its request
+//! goes through the request lines to its origin, and the report shows it as it stands there.
 //!
 //! # The way of a replay
 //!
@@ -7,8 +8,9 @@
 //!
 //! ```text
 //! CONFIG, its files, RECORDING ── read ──► lines, transactions
-//!                                              │ make_row: each transaction is a world between two recorded links, in a group of
-//!                                              │           its own, with a tag: number, setup, the two links as they were made
+//!                                              │ make_row: each transaction is a world between two recorded links with their
+//!                                              │           layers (a front of the client, a carrier to the origin), in a group of
+//!                                              │           its own, with a tag: number, setup, the links as they were made
 //!                                              ▼
 //!  slots     ┌────────────────┬────────────────┬────────────────┬─ .. ─┐
 //!            │ word │ group 0 │ word │ group 1 │ word │ group 2 │      │      a word and a place for each group
@@ -28,7 +30,8 @@
 //!                                              │ all threads have ended: seats and passes are joined, the slots are closed, and
 //!                                              │ `finish` handles what is still pending, group by group, on one thread
 //!                                              ▼
-//!                  of each group in order: its block, and its journal ──► out: the report, block by block
+//!                  of each group in order: the layers are taken off, and what the links took is
+//!                  read: its block, and what stands at its origin; and its journal ──► out: the report
 //! ```
 //!
 //! `tsx generate SEED COUNT SIZE` goes the same way on four threads, from the transactions on: they are made
@@ -39,6 +42,7 @@
 //! the queue then.
 #![tactic(auto)]
 
+mod at_origin;
 mod block;
 mod fault;
 mod framed;

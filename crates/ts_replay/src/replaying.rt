@@ -6,6 +6,7 @@ ghost use Rattle.ts_block.specs.Sent.{HasPlainRules};
 ghost use Rattle.ts_config.specs.Reading.{AreFew};
 ghost use Rattle.ts_config.specs.Setup.{lines_of};
 ghost use Rattle.ts_plugin.specs.Lines.{AreOrdered};
+ghost use Rattle.ts_replay.specs.AtOrigin.{HasOneAtOrigin};
 ghost use Rattle.ts_replay.specs.Heads.{AreHeadsOfBlock};
 ghost use Rattle.ts_replay.specs.Recorded.{AllTakeSome};
 ghost use Rattle.ts_replay.specs.Replayed.{IsReplayed};
@@ -52,9 +53,10 @@ pub fn replay<G: Gate + Sync, R: Threads + Wait + Sync>(
 
 /// The law that transactions under lines have at most one list of blocks, so that whatever text is made of
 /// it is one, and lines and the bytes of a recording have at most one report. What it shows of a transaction
-/// whose client leaves is of its block. The function does nothing.
+/// whose client leaves is of its block, and one thing stands at an origin. The function does nothing.
 pub fn one_report()
     ensures blocks { HaveOneList }
     ensures report { HasOneReport }
     ensures heads { AreHeadsOfBlock }
+    ensures origin { HasOneAtOrigin }
 {}

@@ -1,15 +1,13 @@
 -- A row of groups can be run by threads, and each of its members is done then.
-use Rattle.std.proofs.Common.{◌≤◌, length, refl, arith}
+use Rattle.std.proofs.Common.{◌≤◌, length, arith}
 use Rattle.std.proofs.lemmas.List.{nil_from_length}
 use Rattle.ts_record.specs.declared.recording.TheConstants.{MOST_TXNS}
 use Rattle.ts_replay.specs.declared.running.TheConstants.{BUDGET}
 use Rattle.ts_replay.specs.Members.{members}
-use Rattle.ts_replay.specs.Recorded.{recorded_origin}
+use Rattle.ts_replay.specs.Recorded.{layered_client, layered_link, layered_origin}
 use Rattle.ts_stock.specs.StockTransform.{stock_transform}
-use Rattle.ts_txn.proofs.Telling.{mem_tells}
 use Rattle.ts_txn.specs.LoweringCourse.{transaction_left}
-use Rattle.ts_upstream.specs.InMemory.{memory_link}
-use Rattle.ts_replay.proofs.Askers.{members_few, row_asks, row_starts, row_tells}
+use Rattle.ts_replay.proofs.Askers.{layers_tell, members_few, row_asks, row_starts, row_tells}
 use Rattle.ts_replay.proofs.Ended.{none_done, row_done}
 use Rattle.ts_replay.proofs.Plans.{none_of, numbers_left, some_of, turns_few}
 use Rattle.ts_replay.proofs.running.run_row.Goals as goal
@@ -47,10 +45,9 @@ run_whole-requires-clause-run g c κs within =
 
 pub run_whole-requires-clause-tells : goal.run_whole-requires-clause-tells
 run_whole-requires-clause-tells g c κs within = λ k d low h fits.
-    row_tells (λ t s. transaction_left memory_link memory_link recorded_origin stock_transform t.core t.course
-    s.pending) h.cx.log.state (λ t. mem_tells memory_link memory_link recorded_origin stock_transform
-    (record { told = refl; also = refl; client_look = refl; origin_look = refl; uploads = refl })
-    t.core t.course h.cx.log.state.pending) h.world
+    row_tells (λ t s. transaction_left layered_client layered_link layered_origin stock_transform t.core
+    t.course s.pending) h.cx.log.state
+    (λ t. layers_tell t.core t.course h.cx.log.state.pending) h.world
 
 pub returns-in-Ok : goal.returns-in-Ok
 returns-in-Ok g c = λ setup txns all row.
