@@ -14,6 +14,7 @@ use Rattle.ts_group.specs.declared.either.Either.{Either}
 use Rattle.ts_group.specs.declared.either.Either.TheVariants.{One, Other}
 use Rattle.ts_group.specs.declared.either.EitherTag.{EitherTag}
 use Rattle.ts_group.specs.declared.either.EitherTag.TheVariants as kind
+use Rattle.ts_layers.specs.Layers.{carrier_link, front_link}
 use Rattle.ts_link.specs.declared.link.Link as link
 use Rattle.ts_plugin.specs.Replies.{IsReplyOf}
 use Rattle.ts_plugin.specs.World.{IsPluginOf, OnlyAnswers}
@@ -21,6 +22,8 @@ use Rattle.ts_plugin.specs.declared.plugin.Plugin.{Plugin}
 use Rattle.ts_plugin.specs.declared.plugin.PluginTag.{PluginTag}
 use Rattle.ts_plugin.specs.declared.question.HookQuestion.{HookQuestion}
 use Rattle.ts_plugin.specs.declared.question.HookReply.{HookReply}
+use Rattle.ts_request.specs.Front.{FrontSeen}
+use Rattle.ts_request.specs.declared.carrier.Carrier.{Carrier}
 use Rattle.ts_slot.specs.Limits.{most_groups}
 use Rattle.ts_txn.specs.Asking.{IsRightFor, MayAskGroup}
 use Rattle.ts_txn.specs.Making.{IsTxnSetup}
@@ -98,12 +101,20 @@ line_at (l ∷ ls) (suc place) below = line_at ls place (omega arith)
 module _ (C O Q : Type 0) (clients : link.Ghosts C) (origins : link.Ghosts O) (setup : Setup) (terms : TxnTerms)
     (others : List (Tagged Plugin PluginTag)) (setup_is : terms.setup.value ≡ setup)
     (at_places : terms.plugins_at ≡ PLACES) (are : ArePluginsOf setup.plugins.items others) where
+  -- a transaction with layers, and the terms that it fits
+  abbrev Layered : Type 0
+  Layered = Txn (FrontSeen C) (Carrier O Q) Q
+
+  abbrev FitsPlace : TxnTerms → Place Layered → Type 0
+  FitsPlace = PlaceFits (λ tag t. IsTxnOf (front_link clients) (carrier_link origins) tag t)
+      (KeepsTerms clients.look)
+
   -- whom a world of the server may ask, which replies are right for it, and which it gives
   abbrev ServerWorld : Type 0
-  ServerWorld = Either (Place (Txn C O Q)) Plugin
+  ServerWorld = Either (Place Layered) Plugin
 
   abbrev FitsTag : EitherTag TxnTerms PluginTag → ServerWorld → Type 0
-  FitsTag = EitherFits (PlaceFits (λ tag t. IsTxnOf clients origins tag t) (KeepsTerms clients.look)) IsPluginOf
+  FitsTag = EitherFits FitsPlace IsPluginOf
 
   abbrev MayAsk : ServerWorld → ℕ → Type 0
   MayAsk = EitherMayAsk (PlaceMayAsk MayAskGroup) (λ p group. ⊥)
@@ -131,18 +142,21 @@ module _ (C O Q : Type 0) (clients : link.Ghosts C) (origins : link.Ghosts O) (s
       }
 
   -- a transaction in a place has the setup, and the groups behind the places for its plugins
-  own_setup : (j : ℕ) (own : TxnTerms) (t : Txn C O Q) → slice_get tags j ≡ Some (kind.One own)
-      → PlaceFits (λ tag t. IsTxnOf clients origins tag t) (KeepsTerms clients.look) own (Tenant t)
+  own_setup : (j : ℕ) (own : TxnTerms) (t : Layered) → slice_get tags j ≡ Some (kind.One own)
+      → FitsPlace own (Tenant t)
       → (arc_value t.core.setup ≡ setup) × (t.core.plugins_at ≡ PLACES)
   own_setup j own t there fits =
-      let same = (place_tag PLACES j terms own others there).1 in (
-        fits.2.setup ∙ fits.1.tag_is.setup_is ∙ fits.1.ends_are.setup_is ∙ ap (λ (s : TxnTerms). s.setup.value) same ∙ setup_is,
-        fits.2.plugins_at ∙ fits.1.tag_is.plugins_are ∙ fits.1.ends_are.plugins_are ∙ ap (λ (s : TxnTerms). s.plugins_at) same ∙ at_places,
+      let same = (place_tag PLACES j terms own others there).1 in
+      let tag = fits.1.tag_is in (
+        fits.2.setup ∙ tag.tag_is.setup_is ∙ tag.over.setup ∙ fits.1.ends_are.setup_is
+            ∙ ap (λ (s : TxnTerms). s.setup.value) same ∙ setup_is,
+        fits.2.plugins_at ∙ tag.tag_is.plugins_are ∙ tag.over.plugins_at ∙ fits.1.ends_are.plugins_are
+            ∙ ap (λ (s : TxnTerms). s.plugins_at) same ∙ at_places,
       )
 
   -- whom it may ask stands behind the places, and is only asked
-  asks_behind : (j k : ℕ) (own : TxnTerms) (t : Txn C O Q) → slice_get tags j ≡ Some (kind.One own)
-      → PlaceFits (λ tag t. IsTxnOf clients origins tag t) (KeepsTerms clients.look) own (Tenant t) → MayAskGroup t k
+  asks_behind : (j k : ℕ) (own : TxnTerms) (t : Layered) → slice_get tags j ≡ Some (kind.One own)
+      → FitsPlace own (Tenant t) → MayAskGroup t k
       → (j ≢ k) × (u : EitherTag TxnTerms PluginTag) × (slice_get tags k ≡ Some u) × (asked_only u ≡ true)
   asks_behind j k own t there fits may =
       let below = (place_tag PLACES j terms own others there).0 in
@@ -164,9 +178,9 @@ module _ (C O Q : Type 0) (clients : link.Ghosts C) (origins : link.Ghosts O) (s
   reply_of_tag tag line (Other p) q r is fits answers = subst (λ l. IsReplyOf l q r) (fits ∙ is) answers
 
   -- and what a plugin replies is right for a transaction that may ask it
-  right_of : (j k : ℕ) (own : TxnTerms) (u : EitherTag TxnTerms PluginTag) (t : Txn C O Q) (v : ServerWorld)
+  right_of : (j k : ℕ) (own : TxnTerms) (u : EitherTag TxnTerms PluginTag) (t : Layered) (v : ServerWorld)
       (q : HookQuestion) (r : HookReply) → slice_get tags j ≡ Some (kind.One own)
-      → PlaceFits (λ tag t. IsTxnOf clients origins tag t) (KeepsTerms clients.look) own (Tenant t)
+      → FitsPlace own (Tenant t)
       → slice_get tags k ≡ Some u → FitsTag u v → Answers v q r → IsRightFor t k q r
   right_of j k own u t v q r there fits at fit answers place line is group =
       let has = own_setup j own t there fits in
@@ -197,9 +211,9 @@ module _ (C O Q : Type 0) (clients : link.Ghosts C) (origins : link.Ghosts O) (s
   replies j k (kind.Other s) u (Other p) v q r there fits at fit answers = tt
 
   -- the groups of the server can ask each other
-  pub server_asks : CanAskInServer (λ tag t. IsTxnOf clients origins tag t) (KeepsTerms clients.look)
-      (MayAskGroup {C = C} {O = O} {Q = Q}) IsRightFor (λ t question reply. LetsContinue question reply)
-      IsPluginOf (λ tag. true) (λ p group. ⊥) (λ p group question reply. ⊤)
+  pub server_asks : CanAskInServer (λ tag t. IsTxnOf (front_link clients) (carrier_link origins) tag t)
+      (KeepsTerms clients.look) (MayAskGroup {C = FrontSeen C} {O = Carrier O Q} {Q = Q}) IsRightFor
+      (λ t question reply. LetsContinue question reply) IsPluginOf (λ tag. true) (λ p group. ⊥) (λ p group question reply. ⊤)
       (λ p question reply. IsReplyOf p.line question reply) tags
   server_asks = record { others = asks_others; replies = replies }
 

@@ -10,3 +10,6 @@ mod Leftovers
 mod Serves
 mod Askers
 mod NowStarted
+mod Cleared
+mod LookedAt
+mod Tried

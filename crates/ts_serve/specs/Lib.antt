@@ -1,6 +1,7 @@
 -- The definitions that the contracts of the server of a net cite.
 pub mod Places
 pub mod Tenants
+pub mod TakingOut
 pub mod Arrivals
 pub mod Balance
 pub mod Acceptor

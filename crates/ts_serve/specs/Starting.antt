@@ -1,5 +1,6 @@
 -- The handlers that are started in their places: what is in the row of them, and what stands behind that.
-use Rattle.std.specs.Prelude.{◌≡◌, ◌≢◌, ℕ, ◌<◌, ◌≤◌, List, Bool, true, false, get_or}
+use Rattle.std.specs.Prelude.{◌≡◌, ◌≢◌, ℕ, ◌+◌, ◌<◌, ◌≤◌, List, Bool, true, false, cond, get_or, length}
+use Rattle.std.specs.List.{sum_by}
 use Rattle.ts_journal.specs.declared.entry.TheConstants.{GREATEST}
 use Rattle.ts_journal.specs.declared.slotted.Slotted.{Ghosts}
 use Rattle.ts_journal.specs.State.{State}
@@ -8,6 +9,7 @@ use Rattle.ts_group.specs.declared.either.Either.{Either}
 use Rattle.ts_group.specs.declared.either.EitherTag.{EitherTag}
 use Rattle.ts_group.specs.declared.group.Group.{Group}
 use Rattle.ts_group.specs.Either.{EitherFits, EitherSound, OfBoth, tag_of}
+use Rattle.ts_slot.specs.declared.view.SeatView.{SeatView}
 use Rattle.ts_slot.specs.Words.{view}
 use Rattle.ts_thread.specs.declared.desk.Desk.{Desk}
 use Rattle.ts_thread.specs.News.{HasPlaceAt}
@@ -31,6 +33,21 @@ pub record IsNowStarted (k : ℕ) (old new : List Connection) : Type 0 where
   pub has_origin : Bool
   pub was : get_or old k Free ≡ Accepted number has_origin false
   pub is : get_or new k Free ≡ Accepted number has_origin true
+
+-- 1 where a client is in the row whose handler waits to be started
+abbrev pub is_waiting : Connection → ℕ
+is_waiting Free = 0
+is_waiting (Accepted number has_origin started) = cond started 0 1
+
+-- Where the handler of the place k waits to be started still, it was tried: another seat held the place, and the
+-- seat missed once more.
+abbrev pub IsTriedAt : {G X : Type 0} → ℕ → List Connection → SeatView G X → SeatView G X → Type 0
+IsTriedAt k row old new = length old.misses + is_waiting (get_or row k Free) ≤ length new.misses
+
+-- Each handler that waits to be started still was tried in between: as often another seat held a place, and the
+-- seat missed.
+abbrev pub AreTried : {G X : Type 0} → List Connection → SeatView G X → SeatView G X → Type 0
+AreTried row old new = length old.misses + sum_by is_waiting row ≤ length new.misses
 
 module _ {W T A P V Q R U : Type 0}
     {d : Ghosts (Group (Either (Place W) P) Q R (EitherTag A V) U) (EitherTag A V)

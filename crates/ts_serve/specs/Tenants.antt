@@ -112,6 +112,12 @@ pub record HandsOver {C O : Type 0} (tells : Bool) (Done : Retired C O → Type 
   pub origin_is : is_some retired.parts.origin ≡ has_origin
   pub done : Done retired
 
+-- what the net was handed has this journal
+pub record HandsJournal {C O : Type 0} (tells : Bool) (journal : Log) (old new : NetSeen C O) : Type 0 where
+  pub retired : Retired C O
+  pub handed : IsHanded tells retired old new
+  pub journal_is : retired.journal ≡ journal
+
 -- ---- who stands in a place
 
 -- The seat knows that this handler was left in the group k, in this turn, in a new group.

@@ -1,9 +1,11 @@
 //! How places are cleared that nobody else has: what is left of each handler that has ended is handed to the
 //! net.
 
-ghost use Rattle.std.specs.Prelude.{◌≡◌, ◌<◌, ℕ, length};
-ghost use Rattle.ts_serve.specs.Balance.{HasNoMore, KeepsBalance};
+ghost use Rattle.std.specs.Prelude.{◌≡◌, ◌<◌, ℕ, length, OnOk};
+ghost use Rattle.ts_serve.specs.Balance.{HasAll, HasNoMore, KeepsBalance};
 ghost use Rattle.ts_serve.specs.Acceptor.{IsNotAsked};
+ghost use Rattle.ts_serve.specs.Starting.{OthersStay};
+ghost use Rattle.ts_serve.specs.TakingOut.{AreCleared, IsCleared};
 ghost use Rattle.ts_serve.specs.Tenants.{FitPlaces, FitsTerms};
 
 use crate::acceptor::PLACES;
@@ -17,8 +19,7 @@ use ts_group::World;
 use ts_link::NoMemory;
 
 /// Hands what is left of the client in the place k to the net, if its handler has ended, and the place is free
-/// then. The group is that of the place. At want of memory, or where the handler has
-/// not ended, it is dropped.
+/// then. The group is that of the place. At want of memory, or where the handler has not ended, it is dropped.
 pub fn clear_place<
     N: ClientSource,
     W: Handler<N::Client, N::Origin> + Drop,
@@ -31,6 +32,10 @@ pub fn clear_place<
         row.old.items (N.seen net.old) row.new.items (N.seen net.new) }
     ensures no_more { HasNoMore row.old.items (N.seen net.old) → HasNoMore row.new.items (N.seen net.new) }
     ensures net { IsNotAsked (N.seen net.old) (N.seen net.new) }
+    ensures others { OthersStay k row.old.items row.new.items }
+    ensures cleared { OnOk result (IsCleared W.sound W.number_of W.holds_origin W.is_ended k group
+        row.old.items row.new.items) }
+    ensures all { OnOk result (HasAll row.old.items (N.seen net.old) → HasAll row.new.items (N.seen net.new)) }
 {
     let Connection::Accepted {
         number,
@@ -49,12 +54,12 @@ pub fn clear_place<
 
 /// Hands what is left of each client that is in the row and whose handler has ended to the net. The groups are
 /// those of a server in their order, which nobody else has; they are dropped. Where memory lacks for what is
-/// left of one, that is dropped too.
+/// left of one, that is dropped too, and the answer says so.
 pub fn clear_places<
     N: ClientSource,
     W: Handler<N::Client, N::Origin> + Drop,
     P: World<Question = W::Question, Reply = W::Reply> + Drop,
->(net: &mut N, row: &mut Vec<Connection>, groups: Vec<PlaceGroup<W, P>>)
+>(net: &mut N, row: &mut Vec<Connection>, groups: Vec<PlaceGroup<W, P>>) -> Result<(), NoMemory>
     requires places { length row.old.items ≡ PLACES }
     ensures row { length row.new.items ≡ PLACES }
     ensures balance { KeepsBalance N.tells W.is_done
@@ -62,14 +67,21 @@ pub fn clear_places<
         row.old.items (N.seen net.old) row.new.items (N.seen net.new) }
     ensures no_more { HasNoMore row.old.items (N.seen net.old) → HasNoMore row.new.items (N.seen net.new) }
     ensures net { IsNotAsked (N.seen net.old) (N.seen net.new) }
+    ensures cleared { OnOk result (AreCleared W.sound W.number_of W.holds_origin W.is_ended groups.items
+        row.old.items row.new.items) }
+    ensures all { OnOk result (HasAll row.old.items (N.seen net.old) → HasAll row.new.items (N.seen net.new)) }
 {
     let mut rest = VecDeque::from_vec(groups);
+    let mut cleared = Ok(());
     let mut k = 0;
     'places: while let Some(group) = rest.pop_front() {
         if k == PLACES {
-            return;
+            return cleared;
         }
-        let _ = clear_place(net, row, k, group);
+        if let Err(NoMemory) = clear_place(net, row, k, group) {
+            cleared = Err(NoMemory);
+        }
         k += 1;
     }
+    cleared
 }

@@ -1,9 +1,9 @@
 //! What the acceptor keeps of a place.
 
-ghost use Rattle.std.specs.Prelude.{◌≡◌, ◌<◌, false, length, set};
+ghost use Rattle.std.specs.Prelude.{◌≡◌, ◌<◌, false, get_or, length, set};
 ghost use Rattle.ts_serve.specs.declared.connection.Connection.TheVariants as connection;
 ghost use Rattle.ts_serve.specs.Balance.{IsSameRow};
-ghost use Rattle.ts_serve.specs.Starting.{OthersStay};
+ghost use Rattle.ts_serve.specs.Starting.{OthersStay, is_waiting};
 
 /// What the acceptor keeps of a place: that it is free, or the client that was accepted into it.
 #[derive(Clone, Copy, Debug, PartialEq, Eq, Drop)]
@@ -36,6 +36,7 @@ pub fn mark_started(row: &mut Vec<Connection>, k: u32)
     requires { k < length row.old.items }
     ensures clients { IsSameRow row.old.items row.new.items }
     ensures others { OthersStay k row.old.items row.new.items }
+    ensures marked { is_waiting (get_or row.new.items k connection.Free) ≡ 0 }
 {
     if let Connection::Accepted {
         number,

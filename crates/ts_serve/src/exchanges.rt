@@ -1,8 +1,10 @@
-//! A net that is served by transactions of one setup, with the plugins of its lines beside them.
+//! A net that is served by transactions of one setup, which carry the bodies of requests, with the plugins of
+//! its lines beside them.
 
 ghost use Rattle.std.specs.Prelude.{◌≡◌, ◌<◌, ◌≤◌, is_some, true, IfOk};
 ghost use Rattle.std.specs.Arc.{arc_value};
 ghost use Rattle.ts_exchange.specs.Left.{has_ended, holds_origin, number_of};
+ghost use Rattle.ts_layers.specs.Layers.{carrier_link, carrier_origin, front_link};
 ghost use Rattle.ts_passing.specs.Lines.{ActsAsLines};
 ghost use Rattle.ts_thread.specs.declared.TheConstants.{MOST_THREADS};
 ghost use Rattle.ts_txn.specs.Making.{IsTxnSetup};
@@ -24,13 +26,11 @@ use std::snapshot::Snapshot;
 use std::sync::{Arc, Wait};
 use std::thread::Threads;
 use ts_config::{Setup, TransformLine};
-use ts_exchange::{
-    Exchange, ExchangeSetting, Promise, has_ended, has_origin, make_exchange, plugins_of,
-    take_apart,
-};
+use ts_exchange::{ExchangeSetting, Promise, has_ended, has_origin, plugins_of, take_apart};
 use ts_hooks::HookAnswer;
 use ts_journal::Journal;
-use ts_link::{Clock, Gate, Link, NoMemory};
+use ts_layers::{LayeredExchange, make_layered, plain_parts};
+use ts_link::{Clock, Gate, NoMemory, Sourced};
 use ts_plugin::{HookQuestion, HookReply, Plugin};
 use ts_transform::Transform;
 use ts_txn::{Net, Retired};
@@ -51,8 +51,8 @@ const PROMISE: Promise = Promise {
 };
 
 /// Its tag says what the place promises, and that its number is the name of its client.
-impl<C: Link + Drop, O: Upstream<C> + Drop, P: Transform<Line = TransformLine> + Drop> Tenant
-    for Exchange<C, O, P> {
+impl<C: Sourced + Drop, O: Upstream<C> + Drop, P: Transform<Line = TransformLine> + Drop> Tenant
+    for LayeredExchange<C, O, P> {
     type Terms = TxnTerms;
 
     ghost keeps = { KeepsTerms C.look };
@@ -71,8 +71,10 @@ impl<C: Link + Drop, O: Upstream<C> + Drop, P: Transform<Line = TransformLine> +
     }
 }
 
-impl<C: Link + Drop, O: Upstream<C> + Drop, P: Transform<Line = TransformLine> + Drop> Handler<C, O>
-    for Exchange<C, O, P> {
+impl<C: Sourced + Drop, O: Upstream<C> + Drop, P: Transform<Line = TransformLine> + Drop> Handler<
+    C,
+    O,
+> for LayeredExchange<C, O, P> {
     type Setting = ExchangeSetting;
 
     ghost are_terms = { AreTerms };
@@ -106,18 +108,19 @@ impl<C: Link + Drop, O: Upstream<C> + Drop, P: Transform<Line = TransformLine> +
         number: u64,
         client: C,
         origin: Option<O>,
-    ) -> Result<Exchange<C, O, P>, NoMemory>
+    ) -> Result<LayeredExchange<C, O, P>, NoMemory>
         requires setting { IsTxnSetup (arc_value setting.now.setup) setting.now.plugins_at
             × ActsAsLines P.Transform }
         requires arrival { IsArrival C.Link O.Link O.Upstream.own number client origin }
         ensures number { IfOk result (λ exchange. number_of exchange ≡ number) }
         ensures origin { IfOk result (λ exchange. holds_origin exchange ≡ is_some origin) }
         ensures lives { IfOk result (λ exchange. (terms : TxnTerms) → AreTerms setting.now terms
-            → MayLive (IsTxnOf C.Link O.Link) (KeepsTerms C.look)
-            (λ t s roles. IsSoundTxn C.Link O.Link O.Upstream.own P.Transform t s.pending s.next roles)
+            → MayLive (IsTxnOf (front_link C.Link) (carrier_link O.Link)) (KeepsTerms C.look)
+            (λ t s roles. IsSoundTxn (front_link C.Link) (carrier_link O.Link)
+            (carrier_origin C.Link O.Link O.Upstream.own P.Transform) P.Transform t s.pending s.next roles)
             terms exchange) }
     {
-        let (exchange, _tag) = make_exchange(alloc, setting, number, PROMISE, client, origin)?;
+        let (exchange, _tag) = make_layered(alloc, setting, number, PROMISE, client, origin)?;
         Ok(exchange)
     }
 
@@ -134,8 +137,9 @@ impl<C: Link + Drop, O: Upstream<C> + Drop, P: Transform<Line = TransformLine> +
     }
 
     fn retire(self, journal: Journal) -> Retired<C, O> {
+        let shown = take_apart(self);
         Retired {
-            parts: take_apart(self),
+            parts: plain_parts(shown),
             journal,
         }
     }
@@ -168,7 +172,7 @@ pub fn serve_transactions<
         setup,
         plugins_at: PLACES,
     };
-    serve::<N, Exchange<N::Client, N::Origin, Q>, Plugin, G, C, R>(
+    serve::<N, LayeredExchange<N::Client, N::Origin, Q>, Plugin, G, C, R>(
         host, &setting, plugins, threads, most, net,
     )
 }

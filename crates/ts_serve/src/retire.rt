@@ -1,13 +1,15 @@
 //! How a handler that has ended is taken out of its place, and what is left of it handed to the net.
 
-ghost use Rattle.std.specs.Prelude.{◌≡◌, ◌+◌, ◌<◌, ℕ, true, false, length, IfOk, IfSome, OnOk, OnErr};
+ghost use Rattle.std.specs.Prelude.{◌≡◌, ◌+◌, ◌<◌, ◌%◌, ◌↔◌, ℕ, true, false, length, IfOk, OnOk, OnErr};
 ghost use Rattle.ts_slot.specs.Words.{tags_of, view, IsSeatOf};
 ghost use Rattle.ts_thread.specs.Entering.{Finds};
 ghost use Rattle.ts_thread.specs.Seats.{KeepsSeat, Leaves};
 ghost use Rattle.ts_serve.specs.Acceptor.{HasPlaces, HasPlacesOf, IsAcceptorOf, IsNotAsked, KeepsAcceptor};
 ghost use Rattle.ts_serve.specs.Acceptor.{KeepsSome, LosesNobody};
 ghost use Rattle.ts_serve.specs.Balance.{HasAll, HasNoMore, IsBalanced};
-ghost use Rattle.ts_serve.specs.Tenants.{FitsTerms, HandsOver, HoldsEnded, IsPlace, IsPlaceOf};
+ghost use Rattle.ts_serve.specs.declared.acceptor.TheConstants.{PLACES};
+ghost use Rattle.ts_serve.specs.TakingOut.{IsLeftThere, IsLookedAt, IsTakenOut};
+ghost use Rattle.ts_serve.specs.Tenants.{FitsTerms, HandsJournal, HandsOver, HoldsEnded, IsPlace, IsPlaceOf};
 
 use crate::accept::empty_group;
 use crate::acceptor::{Acceptor, PLACES};
@@ -29,7 +31,7 @@ pub fn has_ended<
     W: Handler<C, O> + Drop,
     P: World<Question = W::Question, Reply = W::Reply> + Drop,
 >(group: &PlaceGroup<W, P>, number: u64, has_origin: bool) -> bool
-    ensures { result ≡ true → HoldsEnded W.sound W.number_of W.holds_origin W.is_ended number has_origin
+    ensures { (result ≡ true) ↔ HoldsEnded W.sound W.number_of W.holds_origin W.is_ended number has_origin
         group.now.world }
 {
     match group.world() {
@@ -48,13 +50,14 @@ fn finds_ended<
     P: World<Question = W::Question, Reply = W::Reply> + Drop,
 >(turn: &mut Turn<PlaceGroup<W, P>>, number: u64, has_origin: bool) -> bool
     ensures same { turn.new ≡ turn.old }
-    ensures over { result ≡ true → HoldsEnded W.sound W.number_of W.holds_origin W.is_ended number has_origin
-        turn.old.boxed.value.world }
+    ensures over { (result ≡ true) ↔ HoldsEnded W.sound W.number_of W.holds_origin W.is_ended
+        number has_origin turn.old.boxed.value.world }
 {
     has_ended(turn.value(), number, has_origin)
 }
 
-/// Hands what is left of the handler of a place over to the net, which has ended.
+/// Hands what is left of the handler of a place over to the net, which has ended, with the journal of its
+/// group.
 pub fn hand_over<
     N: ClientSource,
     W: Handler<N::Client, N::Origin> + Drop,
@@ -64,6 +67,7 @@ pub fn hand_over<
     ensures ok { OnOk result ((terms : W.Terms)
         → FitsTerms W.fits W.keeps W.sound P.fits P.sound P.only_asked P.is_first terms group
         → HandsOver N.tells (W.is_done terms) number has_origin (N.seen net.old) (N.seen net.new)) }
+    ensures journal { OnOk result (HandsJournal N.tells group.cx.log (N.seen net.old) (N.seen net.new)) }
     ensures more { OnOk result ((N.seen net.new).handed ≡ (N.seen net.old).handed + 1) }
     ensures net { IsNotAsked (N.seen net.old) (N.seen net.new) }
     ensures err { OnErr result (N.seen net.new ≡ N.seen net.old) }
@@ -99,9 +103,8 @@ pub fn take_out<
     requires place { IsPlace (tags_of slots.now) turn.group }
     ensures seat { IsSeatOf slots.now seat.new }
     ensures leaves { Leaves (view seat.old) (view seat.new) }
-    ensures out { IfOk result (λ out. IfSome out (λ group. group ≡ turn.boxed.value)) }
-    ensures over { IfOk result (λ out. IfSome out (λ group.
-        HoldsEnded W.sound W.number_of W.holds_origin W.is_ended number has_origin group.world)) }
+    ensures out { IfOk result (IsTakenOut W.sound W.number_of W.holds_origin W.is_ended number has_origin
+        turn.group turn.number turn.boxed.value (view seat.new).known) }
 {
     if !finds_ended(&mut turn, number, has_origin) {
         leave_found(slots, seat, turn);
@@ -137,6 +140,8 @@ pub fn retire_at<
         → IsPlaceOf (tags_of slots.now) k terms
         → HandsOver N.tells (W.is_done terms) number has_origin (N.seen net.old) (N.seen net.new)) }
     ensures none { IfOk result (λ done. done ≡ false → N.seen net.new ≡ N.seen net.old) }
+    ensures stays { IfOk result (λ done. done ≡ false → IsLeftThere W.sound W.number_of W.holds_origin W.is_ended
+        number has_origin k (view seat.old) (view seat.new)) }
     ensures err { OnErr result (N.seen net.new ≡ N.seen net.old) }
 {
     let Some(turn) = enter(slots, seat, k) else {
@@ -171,8 +176,9 @@ pub fn take_out_at<
         → (misdials : ℕ)
         → IsBalanced (W.is_done terms) misdials row.old.items (N.seen net.old)
         → IsBalanced (W.is_done terms) misdials row.new.items (N.seen net.new) }
-    ensures all { OnOk result
-        (HasAll row.old.items (N.seen net.old) → HasAll row.new.items (N.seen net.new)) }
+    ensures all { OnOk result ((HasAll row.old.items (N.seen net.old) → HasAll row.new.items (N.seen net.new))
+        × IsLookedAt W.sound W.number_of W.holds_origin W.is_ended k row.old.items row.new.items
+        (view seat.old) (view seat.new)) }
     ensures no_more { HasNoMore row.old.items (N.seen net.old) → HasNoMore row.new.items (N.seen net.new) }
     ensures net { IsNotAsked (N.seen net.old) (N.seen net.new) }
 {
@@ -209,6 +215,9 @@ pub fn retire_next<
     ensures keeps { KeepsAcceptor N.tells W.is_done (HasPlacesOf (tags_of slots.now))
         acceptor.old acceptor.new (N.seen net.old) (N.seen net.new) }
     ensures all { OnOk result (LosesNobody acceptor.old acceptor.new (N.seen net.old) (N.seen net.new)) }
+    ensures looks { OnOk result ((acceptor.new.next ≡ (acceptor.old.next + 1) % PLACES)
+        × IsLookedAt W.sound W.number_of W.holds_origin W.is_ended acceptor.old.next
+        acceptor.old.row.items acceptor.new.row.items (view seat.old) (view seat.new)) }
 {
     let k = acceptor.next;
     acceptor.next = (k + 1) % PLACES;

@@ -185,5 +185,5 @@ where
         return;
     };
     let _ = finish_left(host.rt, host.clock, groups.as_mut_slice());
-    clear_places(net, row, groups);
+    let _ = clear_places(net, row, groups);
 }

@@ -1,12 +1,13 @@
 //! How handlers are started, once they have a place.
 
-ghost use Rattle.std.specs.Prelude.{◌≡◌, ◌<◌, length};
-ghost use Rattle.ts_slot.specs.Words.{tags_of};
+ghost use Rattle.std.specs.Prelude.{◌≡◌, ◌<◌, length, OnOk};
+ghost use Rattle.ts_slot.specs.Words.{tags_of, view};
 ghost use Rattle.ts_thread.specs.Desks.{IsDeskOf, KeepsTokens};
 ghost use Rattle.ts_serve.specs.Balance.{IsSameRow};
 ghost use Rattle.ts_serve.specs.Acceptor.{HasPlaces, KeepsDeskSome};
 ghost use Rattle.ts_serve.specs.Tenants.{IsPlace};
-ghost use Rattle.ts_serve.specs.Starting.{IsNowStarted, IsStartedAt, OthersStay, WereStartedAt};
+ghost use Rattle.ts_serve.specs.Starting.{AreTried, IsNowStarted, IsStartedAt, IsTriedAt, OthersStay};
+ghost use Rattle.ts_serve.specs.Starting.{WereStartedAt};
 
 use crate::acceptor::PLACES;
 use crate::connection::{Connection, mark_started};
@@ -39,6 +40,7 @@ fn start_handler<
     ensures started { IsNowStarted k row.old.items row.new.items
         → IsStartedAt W.fits W.keeps W.begun W.sound P.fits P.begun P.sound P.is_first
         (tags_of shared.now.slots.now) k desk.new }
+    ensures tried { OnOk result (IsTriedAt k row.new.items (view desk.old.seat) (view desk.new.seat)) }
 {
     let Connection::Accepted { started: false, .. } = row[k as usize] else {
         return Ok(());
@@ -50,7 +52,7 @@ fn start_handler<
 }
 
 /// Tries once to start each handler of an accepted client that was not started. Of whom the row says so then, it
-/// was started, whatever is answered.
+/// was started, whatever is answered; where memory did not lack, another seat held the place of each other.
 pub fn start_handlers<
     W: Tenant + Drop,
     P: World<Question = W::Question, Reply = W::Reply> + Drop,
@@ -69,6 +71,7 @@ pub fn start_handlers<
     ensures row { IsSameRow row.old.items row.new.items }
     ensures started { WereStartedAt W.fits W.keeps W.begun W.sound P.fits P.begun P.sound P.is_first
         (tags_of shared.now.slots.now) PLACES row.old.items row.new.items desk.new }
+    ensures tried { OnOk result (AreTried row.new.items (view desk.old.seat) (view desk.new.seat)) }
 {
     'places: for k in 0..PLACES {
         start_handler(shared, desk, row, k, moment)?;

@@ -87,6 +87,7 @@ pub trait Handler<C: Link, O: Upstream<C>>: Tenant {
     fn retire(self, journal: Journal) -> Retired<C, O>
         ensures number { result.parts.number ≡ number_of self }
         ensures origin { is_some result.parts.origin ≡ holds_origin self }
+        ensures journal { result.journal ≡ journal }
         ensures done { (terms : Self.Terms)
             → HasEndedIn Self.fits Self.keeps Self.sound is_ended terms self journal → is_done terms result };
 }

@@ -2,7 +2,6 @@
 ghost use Rattle.ts_txn.specs.Net.{IsFreshNet};
 
 use std::alloc::Global;
-use std::process::Abort;
 use std::sync::Wait;
 use std::thread::Threads;
 use ts_link::{Gate, MemShelf, MemSink, NoMemory, StepClock};

@@ -7,3 +7,4 @@ mod leaving;
 mod memory;
 mod plugins;
 mod row;
+mod uploads;

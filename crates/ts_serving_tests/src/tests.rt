@@ -2,6 +2,7 @@
 
 mod arrivals;
 mod beginning;
+mod bodies;
 mod clients;
 mod crowds;
 mod faults;

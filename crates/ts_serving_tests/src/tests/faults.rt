@@ -1,6 +1,6 @@
 //! The table of faults: sinks, files and links that fail or wait by the numbers of their calls, and what each of
 //! them comes to, on one thread and on more.
-use crate::command::{MEMORY, Remains, left_of, texts_of, wide_sink};
+use crate::command::{MEMORY, Remains, left_of, texts_of};
 use crate::row::{Outcome, Row, THREADS, all_come, check, compare, served};
 use crate::stated::LESS;
 use std::process::Abort;
@@ -29,9 +29,14 @@ fn is_left(left: &Remains<MemNet>, wanted: &Wanted<'_>) -> bool {
         && left.err.written() == wanted.says
 }
 
-// The files of a command that puts `XY` behind a body of `abc`.
-const FILES: [(&str, &[u8]); 3] = [
-    ("c", b"append_transform.so tail.txt"),
+// The files of a command that puts `XY` behind a body of `abc`. The request line has no effect on that, and its
+// file is read first, as it stands first.
+const FILES: [(&str, &[u8]); 4] = [
+    (
+        "c",
+        b"request.so append_transform.so up.txt\nappend_transform.so tail.txt",
+    ),
+    ("up.txt", b"Z"),
     ("tail.txt", b"XY"),
     ("b", b"abc"),
 ];
@@ -133,8 +138,9 @@ fn a_sink_that_fails_at_each_write(rt: HostRuntime) {
 
 #[test]
 fn a_file_that_fails_at_each_read(rt: HostRuntime) {
-    let lines: [&[u8]; 3] = [
+    let lines: [&[u8]; 4] = [
         b"tsx: cannot read c\n",
+        b"tsx: cannot read up.txt\n",
         b"tsx: cannot read tail.txt\n",
         b"tsx: cannot read b\n",
     ];

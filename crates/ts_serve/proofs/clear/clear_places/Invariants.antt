@@ -1,9 +1,11 @@
--- The places that are passed are cleared, and the groups that are left stand from the next place on.
-use Rattle.std.specs.Prelude.{◌≡◌, ◌≤◌, length}
+-- The places that are passed are cleared, unless memory lacked for one, and the groups that are left stand from
+-- the next place on.
+use Rattle.std.specs.Prelude.{◌≡◌, ◌≤◌, length, OnOk}
 use Rattle.ts_serve.specs.declared.acceptor.TheConstants.{PLACES}
-use Rattle.ts_serve.specs.Balance.{HasNoMore, KeepsBalance}
+use Rattle.ts_serve.specs.Balance.{HasAll, HasNoMore, KeepsBalance}
 use Rattle.ts_serve.specs.Acceptor.{IsNotAsked}
 use Rattle.ts_serve.specs.Tenants.{FitPlaces, FitPlacesFrom}
+use Rattle.ts_serve.proofs.Cleared.{ClearsOn, StandFrom}
 use Rattle.ts_serve.proofs.clear.clear_places.Given as goal
 
 abbrev pub invariant-places : goal.invariant-places
@@ -20,6 +22,11 @@ invariant-places g l =
     × IsNotAsked (g.N.ClientSource.seen l.initial.net) (g.N.ClientSource.seen l.net)
     × (HasNoMore l.initial.row.items (g.N.ClientSource.seen l.initial.net)
     → HasNoMore l.row.items (g.N.ClientSource.seen l.net))
+    × StandFrom l.k l.fn.groups.items l.rest.items
+    × ClearsOn g.W.World.sound g.W.Handler.number_of g.W.Handler.holds_origin g.W.Handler.is_ended l.k
+    l.fn.groups.items l.initial.row.items l.row.items l.cleared
+    × OnOk l.cleared (HasAll l.initial.row.items (g.N.ClientSource.seen l.initial.net)
+    → HasAll l.row.items (g.N.ClientSource.seen l.net))
 
 abbrev pub decreases-places : goal.decreases-places
 decreases-places g l = length l.rest.items

@@ -6,6 +6,16 @@ use Rattle.ts_journal.proofs.Final.{is_kept}
 use Rattle.ts_serve.proofs.Tenants.{ended_in, one_handler}
 use Rattle.ts_serve.proofs.retire.hand_over.Goals as goal
 
+pub returns-clause-journal : goal.returns-clause-journal
+returns-clause-journal g c =
+    on_ok_weaker c.retire-2.result
+    (λ handed. record {
+      retired = c.retire.result;
+      handed = handed;
+      journal_is = c.retire.ensures.journal ∙ c.into_parts-world.ensures.1;
+    })
+    c.retire-2.ensures.ok
+
 pub returns-clause-ok : goal.returns-clause-ok
 returns-clause-ok g c =
     let group = c.args.group in

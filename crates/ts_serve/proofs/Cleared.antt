@@ -1,0 +1,130 @@
+-- Place after place is cleared, and stays so.
+use Rattle.std.proofs.Common.{◌≡◌, ℕ, zero, suc, ◌+◌, ◌-◌, ◌<◌, ◌≤◌, List, [], ◌∷◌, Bool, Result, Ok, Err, ap, drop, get_or, length, refl, sym, subst, arith, ◌∙◌, ⊎_elim}
+use Rattle.std.specs.Prelude.{◌≢◌, OnOk}
+use Rattle.std.proofs.lemmas.Bool.{cases_lt}
+use mathlib.Core.Option.{some, some-ne-none}
+use lib.ListN.{get_elem?}
+use Rattle.ts_lists.proofs.Places.{place_once}
+use Rattle.ts_journal.specs.State.{State}
+use Rattle.ts_group.specs.declared.action.Named.{Named}
+use Rattle.ts_group.specs.declared.either.Either.{Either}
+use Rattle.ts_group.specs.declared.group.Group.{Group}
+use Rattle.ts_serve.specs.declared.acceptor.TheConstants.{PLACES}
+use Rattle.ts_serve.specs.declared.connection.Connection.{Connection}
+use Rattle.ts_serve.specs.declared.connection.Connection.TheVariants.{Free}
+use Rattle.ts_serve.specs.declared.place.Place.{Place}
+use Rattle.ts_serve.specs.Starting.{OthersStay, RestStays}
+use Rattle.ts_serve.proofs.NowStarted.{rest_on}
+use Rattle.ts_serve.specs.TakingOut.{AreCleared, IsCleared}
+
+-- what is left of a list stands in it from the k-th place on
+abbrev pub StandFrom : {A : Type 0} → ℕ → List A → List A → Type 0
+StandFrom k xs rest = (j : ℕ) → get_elem? rest j ≡ get_elem? xs (k + j)
+
+pub stand_all : {A : Type 0} (xs rest : List A) → rest ≡ xs → StandFrom 0 xs rest
+stand_all xs rest is j = subst (λ r. get_elem? r j ≡ get_elem? xs (0 + j)) (sym is) zero_more
+  where
+    zero_more : get_elem? xs j ≡ get_elem? xs (0 + j)
+    zero_more = subst (λ i. get_elem? xs j ≡ get_elem? xs i) (omega arith) refl
+
+pub stand_next : {A : Type 0} (k : ℕ) (xs rest next : List A) (x : A) → rest ≡ x ∷ next → StandFrom k xs rest
+    → (get_elem? xs k ≡ some x) × StandFrom (k + 1) xs next
+stand_next k xs rest next x is stand =
+    let all : StandFrom k xs (x ∷ next) = subst (StandFrom k xs) is stand in (
+      sym (subst (λ i. some x ≡ get_elem? xs i) (omega arith) (all 0)),
+      λ j.
+          let later : get_elem? next j ≡ get_elem? xs (k + suc j) = all (suc j) in
+          subst (λ (i : ℕ). get_elem? next j ≡ get_elem? xs i) (omega arith) later,
+    )
+
+-- a list that is its own rest has nothing in it
+pub nothing_left : {A : Type 0} (xs : List A) → xs ≡ drop 1 xs → xs ≡ []
+nothing_left [] is = refl
+nothing_left (x ∷ xs) is =
+    let long : suc (length xs) ≡ length xs = ap length is in
+    absurd (omega arith)
+
+-- where nothing is left of it, all its places were passed
+pub stand_none : {A : Type 0} (k j : ℕ) (xs rest : List A) (x : A) → rest ≡ [] → StandFrom k xs rest
+    → get_elem? xs j ≡ some x → j < k
+stand_none k j xs rest x none stand at =
+    ⊎_elim (λ (less : j < k). less)
+    (λ (not : k ≤ j).
+    let there : get_elem? [] (j - k) ≡ get_elem? xs (k + (j - k)) =
+    subst (λ r. get_elem? r (j - k) ≡ get_elem? xs (k + (j - k))) none (stand (j - k)) in
+    let same : get_elem? [] (j - k) ≡ get_elem? xs j =
+    subst (λ (i : ℕ). get_elem? [] (j - k) ≡ get_elem? xs i) (omega arith) there in
+    absurd (some-ne-none x (sym at ∙ sym same)))
+    (cases_lt j k)
+
+module _ {W P Q R T U : Type 0} (Sound : W → State → List Named → Type 0) (number_of : W → ℕ)
+    (holds_origin is_ended : W → Bool) where
+  -- the first k places are cleared, and the others are what they were
+  pub record AreClearedTo (k : ℕ) (groups : List (Group (Either (Place W) P) Q R T U)) (old new : List Connection) :
+      Type 0 where
+    pub each : (j : ℕ) (g : Group (Either (Place W) P) Q R T U) → j < k → get_elem? groups j ≡ some g
+        → IsCleared Sound number_of holds_origin is_ended j g old new
+    pub rest : RestStays k old new
+
+  -- the same, unless memory lacked for one of them
+  abbrev pub ClearsOn : {E : Type 0} → ℕ → List (Group (Either (Place W) P) Q R T U) → List Connection
+      → List Connection → Result (Unit {0}) E → Type 0
+  ClearsOn k groups old new (Ok u) = AreClearedTo k groups old new
+  ClearsOn k groups old new (Err e) = RestStays k old new
+
+  -- the others are what they were in any case
+  pub rest_stays : {E : Type 0} (k : ℕ) (groups : List (Group (Either (Place W) P) Q R T U)) (old new : List Connection)
+      (answer : Result (Unit {0}) E) → ClearsOn k groups old new answer → RestStays k old new
+  rest_stays k groups old new (Ok u) on = on.rest
+  rest_stays k groups old new (Err e) on = on
+
+  -- the last place that was cleared is that of its group
+  last_cleared : (k j : ℕ) (groups : List (Group (Either (Place W) P) Q R T U)) (old mid new : List Connection)
+      (g h : Group (Either (Place W) P) Q R T U) → j ≡ k → get_elem? groups k ≡ some g
+      → get_elem? groups j ≡ some h → RestStays k old mid
+      → IsCleared Sound number_of holds_origin is_ended k g mid new
+      → IsCleared Sound number_of holds_origin is_ended j h old new
+  last_cleared k j groups old mid new g h here at there rest one =
+      let found : get_elem? groups k ≡ some h = subst (λ (i : ℕ). get_elem? groups i ≡ some h) here there in
+      let since : IsCleared Sound number_of holds_origin is_ended k g old new =
+      λ number has_origin started was ended. one number has_origin started (rest k (omega arith) ∙ was) ended in
+      subst (λ (i : ℕ). IsCleared Sound number_of holds_origin is_ended i h old new) (sym here)
+      (subst (λ x. IsCleared Sound number_of holds_origin is_ended k x old new)
+      (place_once groups k g h at found) since)
+
+  -- one place more
+  pub one_more_cleared : (k : ℕ) (groups : List (Group (Either (Place W) P) Q R T U)) (old mid new : List Connection)
+      (g : Group (Either (Place W) P) Q R T U) → get_elem? groups k ≡ some g → OthersStay k mid new
+      → IsCleared Sound number_of holds_origin is_ended k g mid new → AreClearedTo k groups old mid
+      → AreClearedTo (k + 1) groups old new
+  one_more_cleared k groups old mid new g at others one before = record {
+    each = λ j h low there number has_origin started was ended.
+        ⊎_elim
+        (λ (less : j < k).
+        let apart : j ≢ k = λ is. absurd (omega arith) in
+        others j apart ∙ before.each j h less there number has_origin started was ended)
+        (λ (not : k ≤ j).
+        let here : j ≡ k = omega arith in
+        last_cleared k j groups old mid new g h here at there before.rest one number has_origin started was ended)
+        (cases_lt j k);
+    rest = rest_on k old mid new before.rest others;
+  }
+
+  -- the same where memory did not lack for it, whatever it did before
+  pub clears_more : {E : Type 0} (k : ℕ) (groups : List (Group (Either (Place W) P) Q R T U))
+      (old mid new : List Connection) (g : Group (Either (Place W) P) Q R T U) (answer : Result (Unit {0}) E)
+      → get_elem? groups k ≡ some g → OthersStay k mid new
+      → IsCleared Sound number_of holds_origin is_ended k g mid new → ClearsOn k groups old mid answer
+      → ClearsOn (k + 1) groups old new answer
+  clears_more k groups old mid new g (Ok u) at others one before =
+      one_more_cleared k groups old mid new g at others one before
+  clears_more k groups old mid new g (Err e) at others one before = rest_on k old mid new before others
+
+  -- all places are cleared: those of the server, or those of all groups that there are
+  pub all_cleared : {E : Type 0} (k : ℕ) (groups : List (Group (Either (Place W) P) Q R T U)) (old new : List Connection)
+      (answer : Result (Unit {0}) E)
+      → ((j : ℕ) (g : Group (Either (Place W) P) Q R T U) → j < PLACES → get_elem? groups j ≡ some g → j < k)
+      → ClearsOn k groups old new answer
+      → OnOk answer (AreCleared Sound number_of holds_origin is_ended groups old new)
+  all_cleared k groups old new (Ok u) behind on = λ j g low at. on.each j g (behind j g low at) at
+  all_cleared k groups old new (Err e) behind on = tt
