@@ -1,5 +1,5 @@
 -- What an accept answers, and what it leaves of who listens (Linux, accept(2)).
-use Rattle.std.specs.Prelude.{⊤, ◌≡◌, ℕ, suc, ◌+◌, ◌<◌, if◌then◌else◌, Result, Ok, Err}
+use Rattle.std.specs.Prelude.{⊤, ◌≡◌, ℕ, Bool, suc, ◌+◌, ◌<◌, if◌then◌else◌, Result, Ok, Err}
 use Rattle.std.specs.IoError.{raw_os_error}
 use Rattle.std.specs.declared.io.Error.{Error}
 use Rattle.std.specs.declared.net.socket_addr.SocketAddr.{SocketAddr}
@@ -10,6 +10,7 @@ use Rattle.ts_net.specs.declared.listener.Arrival.{Arrival}
 use Rattle.ts_net.specs.declared.listener.Arrival.TheVariants as V
 use Rattle.ts_net.specs.declared.listener.Listener.{Listener}
 use Rattle.ts_net.specs.declared.listener.SystemAcceptor.{SystemAcceptor}
+use Rattle.ts_net.specs.declared.poller.TheConstants.{LISTENER}
 
 -- a listener that has accepted nobody
 abbrev pub fresh_listener : {A : Type 0} → A → Listener A
@@ -19,6 +20,12 @@ fresh_listener acceptor = record { acceptor = acceptor; given = 0 }
 pub record ListensAt (address : SocketAddr) (l : Listener SystemAcceptor) : Type 0 where
   pub fresh : l ≡ fresh_listener l.acceptor
   pub at : l.acceptor.address ≡ address
+
+-- the system was asked to watch who listens, with this answer, and as many clients were given as before
+pub record IsWatchedListener {A : Type 0} (watches : ℕ → Bool → A → A → Type 0) (answer : Bool)
+    (old new : Listener A) : Type 0 where
+  pub watched : watches LISTENER answer old.acceptor new.acceptor
+  pub same : new ≡ record old { acceptor = new.acceptor }
 
 -- What the system's answer to an accept comes to, where the next client has this number: an error is a fault
 -- where no later accept can succeed, and else another client may come.

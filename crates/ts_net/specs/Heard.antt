@@ -1,6 +1,7 @@
 -- What the system's answers are to a link (POSIX, `read` and `write` of a socket that does not block), and
 -- which of its errors end the listening (Linux, accept(2)).
-use Rattle.std.specs.Prelude.{◌≡◌, ℕ, List, ℤ, Bool, true, false, ◌||◌, if◌then◌else◌, ◌==◌, Option, Some, None, Result, Ok, Err}
+use Rattle.std.specs.Prelude.{◌≡◌, ◌≢◌, ℕ, List, ℤ, Bool, true, false, ◌||◌, if◌then◌else◌, ◌==◌, Option}
+use Rattle.std.specs.Prelude.{Some, None, Result, Ok, Err}
 use Rattle.std.specs.IoError.{error_kind}
 use Rattle.std.proofs.Common.{int_eq}
 use Rattle.std.specs.declared.io.Error.{Error}
@@ -11,6 +12,7 @@ use Rattle.ts_link.specs.declared.link.Got.TheVariants as G
 use Rattle.ts_link.specs.declared.link.Put.{Put}
 use Rattle.ts_link.specs.declared.link.Put.TheVariants as P
 use Rattle.ts_net.specs.declared.heard.TheConstants.{NO_DESCRIPTOR, NOT_LISTENING, NO_SOCKET}
+use Rattle.ts_net.specs.declared.stream_link.TheConstants.{HURRIES_BEHIND}
 
 -- the call would have waited, or a signal broke it off
 abbrev pub would_wait : ErrorKind → Bool
@@ -52,8 +54,20 @@ abbrev pub HearsRead : {S : Type 0} → (S → S → Result ℕ Error → List �
 HearsRead reads old new answer into =
     (heard : Result ℕ Error) × reads old new heard into × (answer ≡ got_of heard)
 
--- these bytes were written to a stream once, and the link's answer is what the system's is
-abbrev pub HearsWrite : {S : Type 0} → (S → S → List ℕ → Result ℕ Error → Type 0) → S → S → Put → List ℕ
-    → Type 0
-HearsWrite writes old new answer piece =
-    (heard : Result ℕ Error) × writes old new piece heard × (answer ≡ put_of heard)
+-- A stream is told to send at once before the second write of its link, and is left alone before every other
+-- one. A first write goes out at once as it is (RFC 896: what is held back is a small segment behind one that
+-- the peer has not confirmed).
+pub record Hurries {S : Type 0} (hurries : S → S → Type 0) (made : ℕ) (old new : S) : Type 0 where
+  pub second : made ≡ HURRIES_BEHIND → hurries old new
+  pub other : made ≢ HURRIES_BEHIND → new ≡ old
+
+-- Behind so many writes these bytes were written to a stream once, and the link's answer is what the system's
+-- is.
+pub record HearsWrite {S : Type 0} (hurries : S → S → Type 0)
+    (writes : S → S → List ℕ → Result ℕ Error → Type 0) (made : ℕ) (old new : S) (answer : Put)
+    (piece : List ℕ) : Type 0 where
+  pub ready : S
+  pub hurried : Hurries hurries made old ready
+  pub heard : Result ℕ Error
+  pub written : writes ready new piece heard
+  pub answers : answer ≡ put_of heard

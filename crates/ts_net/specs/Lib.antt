@@ -1,8 +1,10 @@
 pub mod Addresses
 pub mod Arrivals
+pub mod Backlogs
 pub mod Dials
 pub mod Heard
 pub mod Limits
 pub mod Lingers
 pub mod Links
 pub mod Moments
+pub mod Polls

@@ -1,5 +1,5 @@
 -- What contracts see of a link over a stream, and what its calls leave of it.
-use Rattle.std.specs.Prelude.{ℕ, [], true, None}
+use Rattle.std.specs.Prelude.{◌≡◌, ℕ, [], Bool, true, None}
 use Rattle.ts_link.specs.Counts.{one_more, one_more_if}
 use Rattle.ts_link.specs.Link.{Look}
 use Rattle.ts_link.specs.LinkAnswers.{got_failed, got_again, put_failed, put_again, writes_after}
@@ -36,6 +36,13 @@ fresh_link stream name = record {
   faults = 0;
   waits = 0;
 }
+
+-- the system was asked to watch a link under a name, with this answer, and the link is the same but for what
+-- that left of its stream
+pub record IsWatchedLink {S : Type 0} (watches : ℕ → Bool → S → S → Type 0) (name : ℕ) (answer : Bool)
+    (old new : StreamLink S) : Type 0 where
+  pub watched : watches name answer old.stream new.stream
+  pub same : new ≡ record old { stream = new.stream }
 
 -- the link after a read of this answer, which left the stream so
 abbrev pub after_read : {S : Type 0} → S → Got → StreamLink S → StreamLink S

@@ -11,7 +11,7 @@ use std::net::{Net, SocketAddr};
 
 /// What begins connections to one origin.
 pub trait Connector {
-    type Stream: Stream + Drop + Send;
+    type Stream: Stream + Drop;
 
     // The second is what a connect left of the first, with this answer.
     ghost connects: { Self → Self → Result Self.Stream Error → Type 0 };
@@ -37,7 +37,7 @@ impl<'a, R: Net> SystemConnector<'a, R> {
     }
 }
 
-// A connection sends what is written at once. One that the peer refused already is none.
+// One that the peer refused already is none.
 impl<'a, R: Net> Connector for SystemConnector<'a, R> {
     type Stream = TcpStream;
 
@@ -48,7 +48,6 @@ impl<'a, R: Net> Connector for SystemConnector<'a, R> {
         if let Some(error) = stream.take_error()? {
             return Err(error);
         }
-        stream.set_nodelay(true)?;
         Ok(stream)
     }
 }

@@ -1,9 +1,11 @@
 //! Who listens: clients are accepted one after the other, each with the number of clients so far as its name.
 ghost use Rattle.std.specs.Prelude.{◌≡◌, Result, IfOk};
 ghost use Rattle.std.specs.declared.io.Error.{Error};
-ghost use Rattle.ts_net.specs.Arrivals.{IsArrival, IsNamed, ListensAt, after_arrival, fresh_listener};
+ghost use Rattle.ts_net.specs.Arrivals.{IsArrival, IsNamed, IsWatchedListener, ListensAt};
+ghost use Rattle.ts_net.specs.Arrivals.{after_arrival, fresh_listener};
 
 use crate::heard::is_final;
+use crate::poller::{LISTENER, Poller, Watched};
 use crate::stream::Stream;
 use crate::stream_link::StreamLink;
 use mio::net::{TcpListener, TcpStream};
@@ -11,8 +13,8 @@ use std::io;
 use std::net::{Net, SocketAddr};
 
 /// What clients of the system connect to.
-pub trait Acceptor {
-    type Stream: Stream + Drop + Send;
+pub trait Acceptor: Watched {
+    type Stream: Stream + Drop;
 
     // The second is what an accept left of the first, with this answer.
     ghost accepts: { Self → Self → Result Self.Stream Error → Type 0 };
@@ -42,16 +44,22 @@ impl SystemAcceptor {
     }
 }
 
-// A connection sends what is written at once. Where that cannot be set, its peer has gone.
+// To be watched leaves it the one that it was.
+impl Watched for SystemAcceptor {
+    ghost watches = { λ name answer before after. after ≡ before };
+
+    fn watch(&mut self, poller: &Poller, name: u64) -> bool {
+        poller.watch(&mut self.listener, name)
+    }
+}
+
 impl Acceptor for SystemAcceptor {
     type Stream = TcpStream;
 
     ghost accepts = { λ before after answer. after ≡ before };
 
     fn next_stream(&mut self) -> io::Result<TcpStream> {
-        let (stream, _) = self.listener.accept()?;
-        let _ = stream.set_nodelay(true);
-        Ok(stream)
+        Ok(self.listener.accept()?.0)
     }
 }
 
@@ -106,6 +114,13 @@ impl Listener<SystemAcceptor> {
 }
 
 impl<A: Acceptor> Listener<A> {
+    /// Has the poller tell where a client may be there. Answers whether it does.
+    pub fn watch(&mut self, poller: &Poller) -> bool
+        ensures { IsWatchedListener A.watches result self.old self.new }
+    {
+        self.acceptor.watch(poller, LISTENER)
+    }
+
     /// The next client, if one is there. Its name is the number of clients given, itself among them.
     pub fn accept(&mut self) -> Arrival<A::Stream>
         ensures heard { IsArrival A.accepts self.old self.new.acceptor result }

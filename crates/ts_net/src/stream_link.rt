@@ -4,14 +4,19 @@ ghost use Rattle.std.proofs.Common.{arith};
 ghost use Rattle.ts_link.specs.Counts.{Counted, Rose, one_more, one_more_if};
 ghost use Rattle.ts_link.specs.Link.{Reads, Writes};
 ghost use Rattle.ts_upstream.specs.Uploads.{MovesNothing};
-ghost use Rattle.ts_net.specs.Heard.{HearsRead, HearsWrite};
-ghost use Rattle.ts_net.specs.Links.{after_read, after_write, fresh_link, look_of};
+ghost use Rattle.ts_net.specs.Heard.{HearsRead, HearsWrite, Hurries};
+ghost use Rattle.ts_net.specs.Links.{IsWatchedLink, after_read, after_write, fresh_link, look_of};
 
 use crate::heard::{got_of, put_of};
+use crate::poller::Poller;
 use crate::stream::Stream;
 use mio::net::TcpStream;
 use ts_link::{Got, Link, Put, Sourced};
 use ts_upstream::{Uploaded, Upstream};
+
+/// Behind so many writes a link tells its stream to send at once. The first write goes out at once as it is,
+/// since nothing was sent that the peer has not confirmed.
+pub const HURRIES_BEHIND: u64 = 1;
 
 /// A link over a stream, with its name and its counts. It tells nothing of the bytes that pass.
 #[derive(Drop)]
@@ -64,6 +69,24 @@ impl<S> StreamLink<S> {
     }
 }
 
+impl<S: Stream> StreamLink<S> {
+    /// Has the poller tell under a name where the connection is ready. Answers whether it does.
+    pub fn watch(&mut self, poller: &Poller, name: u64) -> bool
+        ensures { IsWatchedLink S.watches name result self.old self.new }
+    {
+        self.stream.watch(poller, name)
+    }
+}
+
+// Tells a stream to send at once, before the write behind so many.
+fn hurry<S: Stream>(stream: &mut S, writes: u64)
+    ensures { Hurries S.hurries writes stream.old stream.new }
+{
+    if writes == HURRIES_BEHIND {
+        stream.send_at_once();
+    }
+}
+
 // Counts one more.
 fn count(counted: &mut u64)
     ensures value { counted.new ≡ one_more counted.old }
@@ -110,9 +133,11 @@ impl<S: Stream> Link for StreamLink<S> {
         requires { 0 < length piece.now }
         ensures writes { Writes false (look_of self.old) (look_of self.new) result piece.now }
         ensures goes { ⊤ }
-        ensures heard { HearsWrite S.writes self.old.stream self.new.stream result piece.now }
+        ensures heard { HearsWrite S.hurries S.writes self.old.writes
+            self.old.stream self.new.stream result piece.now }
         ensures after { self.new ≡ after_write self.new.stream result self.old }
     {
+        hurry(&mut self.stream, self.writes);
         let put = put_of(self.stream.send(piece));
         match put {
             Put::Took(_) => count(&mut self.writes),

@@ -10,7 +10,8 @@ use std::sync::atomic::{AtomicU64, Ordering};
 use std::{io, time};
 use ts_link::{Clock, Got, Link, Put};
 use ts_net::{
-    HalfClosed, LINGER, Lingering, MOST_LINGERING, MonotonicClock, SocketLink, Stream, StreamLink,
+    HalfClosed, LINGER, Lingering, MOST_LINGERING, MonotonicClock, Poller, SocketLink, Stream,
+    StreamLink, Watched,
 };
 
 // How long the answer is. Of so much the system drops the greater part where a connection is closed over
@@ -172,10 +173,20 @@ fn an_answer_comes_whole_where_the_clock_jumps(rt: HostRuntime) {
 #[derive(Drop)]
 struct Silent;
 
+impl Watched for Silent {
+    ghost watches = { λ name answer before after. ⊤ };
+
+    fn watch(&mut self, _poller: &Poller, _name: u64) -> bool {
+        false
+    }
+}
+
 impl Stream for Silent {
     ghost reads = { λ before after answer room. ⊤ };
 
     ghost writes = { λ before after piece answer. ⊤ };
+
+    ghost hurries = { λ before after. ⊤ };
 
     ghost shuts = { λ before after. ⊤ };
 
@@ -186,6 +197,8 @@ impl Stream for Silent {
     fn send(&mut self, _piece: &[u8]) -> io::Result<usize> {
         Err(io::Error::from(ErrorKind::WouldBlock))
     }
+
+    fn send_at_once(&mut self) {}
 
     fn end_sending(&mut self) {}
 }

@@ -1,8 +1,11 @@
-//! Tests of the adapters over sockets, each over loopback: what a client gets, what is answered and counted.
+//! Tests of the adapters over sockets, each over loopback: what a client gets, what is answered and counted,
+//! and which sockets are told of.
 #![tactic(auto)]
 
 #[cfg(test)]
 mod addresses;
+#[cfg(test)]
+mod backlogs;
 #[cfg(test)]
 mod clocks;
 #[cfg(test)]
@@ -15,3 +18,5 @@ mod links;
 mod listeners;
 #[cfg(test)]
 mod loopback;
+#[cfg(test)]
+mod polls;

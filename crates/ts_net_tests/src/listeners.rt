@@ -3,9 +3,11 @@ ghost use Rattle.std.specs.Prelude.{⊤};
 
 use crate::loopback::{MEMORY, REFUSED, accept, dial, listen, pair, read_waiting};
 use mio::net::TcpStream;
-use std::io;
-use ts_link::Got;
-use ts_net::{Acceptor, Arrival, Listener, is_final};
+use std::net::Net;
+use std::process::Abort;
+use std::{io, time};
+use ts_link::{Got, Link, Put};
+use ts_net::{Acceptor, Arrival, Listener, Poller, Watched, is_final};
 
 #[test]
 fn clients_have_their_number_as_name(rt: HostRuntime) {
@@ -41,12 +43,21 @@ fn a_burst_of_clients_is_accepted(rt: HostRuntime) {
     assert!(rt; matches!(listener.accept(), Arrival::Again));
 }
 
+// Whether a connection sends at once by its option, behind so many writes of its link.
+fn sends_at_once<R: Abort + Net + time::Clock>(rt: &R, writes: u64) -> [bool; 2] {
+    let (mut client, mut served) = pair(rt);
+    for _ in 0..writes {
+        let sent = [client.write(b"a"), served.write(b"b")];
+        assert!(rt; sent == [Put::Took(1); 2]);
+    }
+    [client, served].map(|link| link.into_stream().nodelay().expect(rt, REFUSED))
+}
+
+// What is written first goes out at once as it is, and so no option is set for it.
 #[test]
-fn both_ends_send_at_once(rt: HostRuntime) {
-    let (client, served) = pair(&rt);
-    let sends = client.into_stream().nodelay().expect(&rt, REFUSED);
-    let answers = served.into_stream().nodelay().expect(&rt, REFUSED);
-    assert!(rt; sends && answers);
+fn both_ends_send_at_once_from_the_second_write_on(rt: HostRuntime) {
+    let seen = [0, 1, 2, 3].map(|writes| sends_at_once(&rt, writes));
+    assert!(rt; seen == [[false; 2], [false; 2], [true; 2], [true; 2]]);
 }
 
 // A client that left before it was accepted comes, and has ended.
@@ -63,6 +74,14 @@ fn a_client_that_left_has_ended(rt: HostRuntime) {
 #[derive(Drop)]
 struct Refusing {
     code: i32,
+}
+
+impl Watched for Refusing {
+    ghost watches = { λ name answer before after. ⊤ };
+
+    fn watch(&mut self, _poller: &Poller, _name: u64) -> bool {
+        false
+    }
 }
 
 impl Acceptor for Refusing {

@@ -1,2 +1,4 @@
 pub mod Opening
+pub mod Asking
 pub mod SocketNet
+pub mod Watching

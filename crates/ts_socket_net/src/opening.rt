@@ -3,20 +3,23 @@ ghost use Rattle.std.specs.Prelude.{◌≡◌};
 ghost use Rattle.ts_socket_net.specs.Opening.{IsOpening, fault_of_address, fault_of_error};
 ghost use Rattle.ts_socket_net.specs.declared.opening.OpenFault.TheVariants.{NoMemory as LacksMemory};
 
-use mio::net::TcpStream;
+use crate::sockets::Sockets;
 use std::alloc::Global;
 use std::io;
 use std::io::ErrorKind;
-use std::net::Net;
 use ts_link::NoMemory;
-use ts_net::{AddressFault, Lingering, Listener, SystemConnector, SystemListener, address_of};
+use ts_net::{Acceptor, AddressFault, Backlog, Lingering, Listener, Poller, address_of};
 
-/// Who listens, who dials, and the clients that linger.
+/// Who listens, who dials, the clients that linger, the descriptor that is held for the next dial, what tells
+/// which sockets are ready, and what is known of the clients that wait.
 #[derive(Drop)]
-pub struct Opened<'a, R> {
-    pub listener: SystemListener,
-    pub connector: SystemConnector<'a, R>,
-    pub lingering: Lingering<TcpStream>,
+pub struct Opened<S: Sockets> {
+    pub listener: Listener<S::Acceptor>,
+    pub connector: S::Connector,
+    pub lingering: Lingering<<S::Acceptor as Acceptor>::Stream>,
+    pub spare: Option<S::Spare>,
+    pub poller: Poller,
+    pub backlog: Backlog,
 }
 
 /// Why a net does not begin: a text writes no address, the system refuses to listen, or memory is lacking.
@@ -59,21 +62,27 @@ impl From<io::Error> for OpenFault {
 
 /// Listens at the address that the first text writes, for clients whose origin has the address that the
 /// second one writes.
-pub fn open<'a, R: Net>(
-    rt: &'a R,
+pub fn open<S: Sockets>(
+    sockets: &S,
     alloc: Global,
     listen: &str,
     origin: &str,
-) -> Result<Opened<'a, R>, OpenFault>
-    ensures { IsOpening listen.now origin.now result }
+) -> Result<Opened<S>, OpenFault>
+    ensures { IsOpening S.listens S.connects S.Acceptor.watches listen.now origin.now result }
 {
     let place = address_of(alloc, listen)?;
     let target = address_of(alloc, origin)?;
     let lingering = Lingering::new(alloc)?;
-    let listener = Listener::bind(rt, place)?;
+    let poller = sockets.poller(alloc)?;
+    let acceptor = sockets.listen(place)?;
+    let mut listener = Listener::new(acceptor);
+    let backlog = Backlog::new(listener.watch(&poller));
     Ok(Opened {
         listener,
-        connector: SystemConnector::new(rt, target),
+        connector: sockets.connector(target),
         lingering,
+        spare: None,
+        poller,
+        backlog,
     })
 }

@@ -1,8 +1,10 @@
 //! A client whose transaction was handed over gets its answer whole, and a clean end, whatever it sent that
 //! nobody read.
-use crate::loopback::{PATIENCE, accept, begin, connect, listen, read_waiting, retired};
-use std::test::Fail;
-use std::{io, net, time};
+use crate::loopback::{
+    MEMORY, PATIENCE, REFUSED, accept, begin, connect, listen, read_waiting, retired,
+};
+use std::process::Abort;
+use std::{net, time};
 use ts_link::{Clock, Got, Link, Put};
 use ts_net::{MonotonicClock, SocketLink, StreamLink};
 use ts_socket_net::SocketNet;
@@ -25,12 +27,17 @@ fn hear(client: &mut SocketLink) -> (usize, bool) {
 }
 
 // Writes an answer to a client that reads, and gives how much of it the client has read.
-fn answer(served: &mut SocketLink, client: &mut SocketLink, bytes: &[u8]) -> io::Result<usize> {
+fn answer(
+    rt: &impl Abort,
+    served: &mut SocketLink,
+    client: &mut SocketLink,
+    bytes: &[u8],
+) -> usize {
     let mut rest = bytes;
     let mut heard = 0usize;
     for _ in 0..u64::MAX {
         if rest.is_empty() {
-            return Ok(heard);
+            return heard;
         }
         match served.write(rest) {
             Put::Took(count) => rest = &rest[count..],
@@ -38,30 +45,27 @@ fn answer(served: &mut SocketLink, client: &mut SocketLink, bytes: &[u8]) -> io:
             Put::Failed | Put::NoMemory => break,
         }
     }
-    Err(io::Error::other("a write failed"))
+    panic!(rt; "a write failed")
 }
 
 // A client sends all these bytes, of which one read takes some, and is answered and handed over. Gives the
 // client, and how much it has read.
-fn serve<R: net::Net + time::Clock + AllocGlobal, C: Clock>(
+fn serve<R: net::Net + time::Clock + AllocGlobal + Abort, C: Clock>(
     rt: &R,
     net: &mut SocketNet<'_, R, C>,
     port: u16,
     sent: &[u8],
-) -> io::Result<(SocketLink, usize)> {
-    let mut client = connect(rt, port)?;
-    let mut served = accept(rt, net)?;
-    if sent.is_empty() || client.write(sent) != Put::Took(sent.len()) {
-        return Err(io::Error::other("the client could not send"));
-    }
-    let mut room = [0u8; 35];
-    let _first = read_waiting(rt, &mut served, &mut room);
-    let bytes = vec![in rt.alloc(); b'a'; ANSWER]?;
-    let heard = answer(&mut served, &mut client, bytes.as_slice())?;
-    match net.retire(retired(rt, served, None)?) {
-        Ok(()) => Ok((client, heard)),
-        Err(_) => Err(io::Error::other("it was not taken")),
-    }
+) -> (SocketLink, usize) {
+    assert!(rt; !sent.is_empty());
+    let bytes = vec![in rt.alloc(); b'a'; ANSWER].expect(rt, MEMORY);
+    let mut client = connect(rt, port);
+    let mut served = accept(rt, net);
+    assert!(rt; client.write(sent) == Put::Took(sent.len()));
+    let _first = read_waiting(rt, &mut served, &mut [0; 35]);
+    let heard = answer(rt, &mut served, &mut client, bytes.as_slice());
+    let taken = net.retire(retired(rt, served, None));
+    assert!(rt; taken.is_ok());
+    (client, heard)
 }
 
 // Whether a client gets the whole answer and a clean end, of which it has read so much.
@@ -82,68 +86,68 @@ fn hears_all<R: time::Clock>(rt: &R, client: &mut SocketLink, heard: usize) -> b
 }
 
 #[test]
-fn an_answer_over_an_unread_body_comes_whole(rt: HostRuntime) -> Result<(), Fail> {
+fn an_answer_over_an_unread_body_comes_whole(rt: HostRuntime) {
     let clock = MonotonicClock::new(&rt);
+    let mut sent = Vec::from_slice(rt.alloc(), REQUEST).expect(&rt, MEMORY);
+    sent.resize(20_000, b'b').expect(&rt, MEMORY);
     let mut net = SocketNet::new(&rt, rt.alloc(), &clock);
-    let port = begin(&rt, &mut net, 1)?;
-    let mut sent = Vec::from_slice(rt.alloc(), REQUEST)?;
-    sent.resize(20_000, b'b')?;
-    let (mut client, heard) = serve(&rt, &mut net, port, sent.as_slice())?;
+    let port = begin(&rt, &mut net, 1);
+    let (mut client, heard) = serve(&rt, &mut net, port, sent.as_slice());
     for _ in 0..20 {
         let _none = net.accept();
     }
-    assert!(rt; client.write(b"and more") == Put::Took(8));
+    let more = client.write(b"and more");
     let _none = net.accept();
-    assert!(rt; hears_all(&rt, &mut client, heard));
-    Ok(())
+    assert!(rt; more == Put::Took(8) && hears_all(&rt, &mut client, heard));
 }
 
 #[test]
-fn an_answer_before_a_second_request_comes_whole_at_the_end(rt: HostRuntime) -> Result<(), Fail> {
+fn an_answer_before_a_second_request_comes_whole_at_the_end(rt: HostRuntime) {
     let clock = MonotonicClock::new(&rt);
+    let mut both = Vec::from_slice(rt.alloc(), REQUEST).expect(&rt, MEMORY);
+    both.extend_from_slice(REQUEST).expect(&rt, MEMORY);
     let mut net = SocketNet::new(&rt, rt.alloc(), &clock);
-    let port = begin(&rt, &mut net, 1)?;
-    let mut both = Vec::from_slice(rt.alloc(), REQUEST)?;
-    both.extend_from_slice(REQUEST)?;
-    let (mut client, heard) = serve(&rt, &mut net, port, both.as_slice())?;
+    let port = begin(&rt, &mut net, 1);
+    let (mut client, heard) = serve(&rt, &mut net, port, both.as_slice());
     let before = clock.now();
     net.finish();
-    assert!(rt; clock.now() < before.saturating_add(1_000));
-    assert!(rt; hears_all(&rt, &mut client, heard));
-    Ok(())
+    let after = clock.now();
+    assert!(rt; after < before.saturating_add(1_000) && hears_all(&rt, &mut client, heard));
 }
 
 // Lets a net take a client and dial its origin, hands both over, and gives the two other ends.
-fn hand_over<R: net::Net + time::Clock + AllocGlobal, C: Clock>(
+fn hand_over<R: net::Net + time::Clock + AllocGlobal + Abort, C: Clock>(
     rt: &R,
     net: &mut SocketNet<'_, R, C>,
-) -> io::Result<(SocketLink, SocketLink)> {
-    let (listener, origin_port) = listen(rt)?;
-    let port = begin(rt, net, origin_port)?;
-    let client = connect(rt, port)?;
-    let served = accept(rt, net)?;
+) -> (SocketLink, SocketLink) {
+    let (listener, origin_port) = listen(rt);
+    let port = begin(rt, net, origin_port);
+    let client = connect(rt, port);
+    let served = accept(rt, net);
     let Dialed::Origin(dialed) = net.dial() else {
-        return Err(io::Error::other("no origin"));
+        panic!(rt; "no origin");
     };
     MonotonicClock::new(rt).pause(5);
-    let origin = StreamLink::new(listener.accept()?.0, 0);
-    match net.retire(retired(rt, served, Some(dialed))?) {
-        Ok(()) => Ok((client, origin)),
-        Err(_) => Err(io::Error::other("it was not taken")),
-    }
+    let (stream, _) = listener.accept().expect(rt, REFUSED);
+    let taken = net.retire(retired(rt, served, Some(dialed)));
+    assert!(rt; taken.is_ok());
+    (client, StreamLink::new(stream, 0))
 }
 
 // Only the client lingers: its origin is closed at once.
 #[test]
-fn an_origin_is_closed_where_its_client_lingers(rt: HostRuntime) -> Result<(), Fail> {
+fn an_origin_is_closed_where_its_client_lingers(rt: HostRuntime) {
     let clock = MonotonicClock::new(&rt);
     let mut net = SocketNet::new(&rt, rt.alloc(), &clock);
-    let (mut client, mut origin) = hand_over(&rt, &mut net)?;
+    let (mut client, mut origin) = hand_over(&rt, &mut net);
     let mut room = [0u8; 8];
-    assert!(rt; read_waiting(&rt, &mut client, &mut room) == Got::End);
-    assert!(rt; read_waiting(&rt, &mut origin, &mut room) == Got::End);
-    assert!(rt; client.write(b"late") == Put::Took(4) && origin.write(b"late") == Put::Took(4));
+    let ends = [
+        read_waiting(&rt, &mut client, &mut room),
+        read_waiting(&rt, &mut origin, &mut room),
+    ];
+    let sent = [client.write(b"late"), origin.write(b"late")];
     clock.pause(5);
-    assert!(rt; client.write(b"later") == Put::Took(5) && origin.write(b"later") == Put::Failed);
-    Ok(())
+    let later = [client.write(b"later"), origin.write(b"later")];
+    assert!(rt; ends == [Got::End; 2] && sent == [Put::Took(4); 2]);
+    assert!(rt; later == [Put::Took(5), Put::Failed]);
 }

@@ -1,10 +1,10 @@
 //! The command `serve` over sockets: a client and its origin in a thread, and the program in another.
-use crate::loopback::{PATIENCE, connect, free_port, local, text_of};
+use crate::loopback::{MEMORY, PATIENCE, REFUSED, free_port, local, text_of, try_connect};
 use std::net::Net;
+use std::process::Abort;
 use std::sync::Wait;
-use std::test::Fail;
 use std::thread::Threads;
-use std::{io, thread, time};
+use std::{thread, time};
 use ts_link::{Clock, Got, Link, MemShelf, MemSink, OpenGate, Put};
 use ts_net::{Arrival, MonotonicClock, SocketLink, SystemListener};
 use ts_proxy::run;
@@ -38,83 +38,74 @@ struct Remains {
 }
 
 // A connection to a port, at which somebody will listen.
-fn connect_waiting<R: Net + time::Clock>(rt: &R, port: u16) -> io::Result<SocketLink> {
+fn connect_waiting<R: Net + time::Clock + Abort>(rt: &R, port: u16) -> SocketLink {
     let clock = MonotonicClock::new(rt);
     for _ in 0..PATIENCE {
-        match connect(rt, port) {
-            Ok(link) => return Ok(link),
-            Err(_) => clock.pause(1),
+        match try_connect(rt, port) {
+            Some(link) => return link,
+            None => clock.pause(1),
         }
     }
-    Err(io::Error::other("nobody listens"))
+    panic!(rt; "nobody listens")
 }
 
 // The next connection of an origin, which is waited for.
-fn accept_waiting<R: time::Clock>(rt: &R, origin: &mut SystemListener) -> io::Result<SocketLink> {
+fn accept_waiting<R: time::Clock + Abort>(rt: &R, origin: &mut SystemListener) -> SocketLink {
     let clock = MonotonicClock::new(rt);
     for _ in 0..PATIENCE {
         match origin.accept() {
-            Arrival::Client(link) => return Ok(link),
+            Arrival::Client(link) => return link,
             Arrival::Again => clock.pause(1),
             Arrival::Closed | Arrival::Failed => break,
         }
     }
-    Err(io::Error::other("the origin was not dialed"))
+    panic!(rt; "the origin was not dialed")
 }
 
 // All that comes, up to the end or up to so many bytes.
-fn read_up_to<R: time::Clock + AllocGlobal>(
+fn read_up_to<R: time::Clock + AllocGlobal + Abort>(
     rt: &R,
     link: &mut SocketLink,
     most: usize,
-) -> io::Result<Vec<u8>> {
+) -> Vec<u8> {
     let clock = MonotonicClock::new(rt);
     let mut bytes = Vec::new(rt.alloc());
     let mut room = [0u8; 64];
     for _ in 0..PATIENCE {
         if bytes.len() >= most {
-            return Ok(bytes);
+            return bytes;
         }
         match link.read(&mut room) {
-            Got::Bytes(count) => bytes.extend_from_slice(&room[..count])?,
-            Got::End => return Ok(bytes),
+            Got::Bytes(count) => bytes.extend_from_slice(&room[..count]).expect(rt, MEMORY),
+            Got::End => return bytes,
             Got::Again => clock.pause(1),
             Got::Failed => break,
         }
     }
-    Err(io::Error::other("not all came"))
+    panic!(rt; "not all came")
 }
 
 // A client asks at a port, and its origin answers.
-fn visit<R: Net + time::Clock + AllocGlobal>(
+fn visit<R: Net + time::Clock + AllocGlobal + Abort>(
     rt: &R,
     port: u16,
     mut origin: SystemListener,
-) -> io::Result<Seen> {
-    let mut client = connect_waiting(rt, port)?;
-    if client.write(ASKED) != Put::Took(ASKED.len()) {
-        return Err(io::Error::other("the client could not ask"));
-    }
-    let mut dialed = accept_waiting(rt, &mut origin)?;
-    let asked = read_up_to(rt, &mut dialed, PASSED_ON.len())?;
-    if dialed.write(ANSWERED) != Put::Took(ANSWERED.len()) {
-        return Err(io::Error::other("the origin could not answer"));
-    }
-    let taken = read_up_to(rt, &mut client, usize::MAX)?;
-    Ok(Seen { asked, taken })
+) -> Seen {
+    let mut client = connect_waiting(rt, port);
+    assert!(rt; client.write(ASKED) == Put::Took(ASKED.len()));
+    let mut dialed = accept_waiting(rt, &mut origin);
+    let asked = read_up_to(rt, &mut dialed, PASSED_ON.len());
+    assert!(rt; dialed.write(ANSWERED) == Put::Took(ANSWERED.len()));
+    let taken = read_up_to(rt, &mut client, usize::MAX);
+    Seen { asked, taken }
 }
 
-// The program, which serves one connection at a port and dials another.
-fn serve_one<R: Net + Threads + Wait + time::Clock + AllocGlobal + Sync>(
-    rt: &R,
-    port: u16,
-    origin: u16,
-) -> io::Result<Remains> {
+// The words that serve one connection at a port and dial another.
+fn words_of<R: AllocGlobal + Abort>(rt: &R, port: u16, origin: u16) -> Vec<String> {
     let alloc = rt.alloc();
-    let listen = text_of(rt, port)?;
-    let origin = text_of(rt, origin)?;
-    let mut words = Vec::new(alloc);
-    for word in [
+    let listen = text_of(rt, port);
+    let origin = text_of(rt, origin);
+    let words = [
         "serve",
         "--listen",
         listen.as_str(),
@@ -124,53 +115,55 @@ fn serve_one<R: Net + Threads + Wait + time::Clock + AllocGlobal + Sync>(
         "c",
         "--connections",
         "1",
-    ] {
-        words.push(String::from_str(alloc, word)?)?;
+    ];
+    let mut texts = Vec::new(alloc);
+    for word in words {
+        let text = String::from_str(alloc, word).expect(rt, MEMORY);
+        texts.push(text).expect(rt, MEMORY);
     }
+    texts
+}
+
+// The program, which serves one connection at a port and dials another.
+fn serve_one<R: Net + Threads + Wait + time::Clock + AllocGlobal + Abort + Sync>(
+    rt: &R,
+    port: u16,
+    origin: u16,
+) -> Remains {
+    let alloc = rt.alloc();
+    let words = words_of(rt, port, origin);
     let mut shelf = MemShelf::make(alloc);
-    if shelf.add("c", b"").is_err() {
-        return Err(io::Error::other("no memory"));
-    }
+    shelf.add("c", b"").expect(rt, MEMORY);
     let mut out = MemSink::make(alloc, usize::MAX, Vec::new(alloc));
     let mut err = MemSink::make(alloc, usize::MAX, Vec::new(alloc));
     let clock = MonotonicClock::new(rt);
     let mut net = SocketNet::new(rt, alloc, &clock);
+    let words = words.as_slice();
+    let gate = OpenGate::make();
     let ended = run(
-        rt,
-        alloc,
-        words.as_slice(),
-        &mut shelf,
-        &mut net,
-        &mut out,
-        &mut err,
-        &clock,
-        &OpenGate::make(),
+        rt, alloc, words, &mut shelf, &mut net, &mut out, &mut err, &clock, &gate,
     );
     net.finish();
-    Ok(Remains {
+    Remains {
         status: ended.status,
         out,
         err,
         journals: ended.journals.len(),
-    })
+    }
 }
 
 #[test]
-fn a_client_is_served_and_the_program_ends(rt: HostRuntime) -> Result<(), Fail> {
-    let origin = SystemListener::bind(&rt, local(0))?;
-    let origin_port = origin.address()?.port();
-    let port = free_port(&rt)?;
+fn a_client_is_served_and_the_program_ends(rt: HostRuntime) {
+    let origin = SystemListener::bind(&rt, local(0)).expect(&rt, REFUSED);
+    let origin_port = origin.address().expect(&rt, REFUSED).port();
+    let port = free_port(&rt);
     let shared = &rt;
     let (seen, left) = thread::join(
         shared,
         move || visit(shared, port, origin),
         move || serve_one(shared, port, origin_port),
     );
-    let left = left?;
-    assert!(rt; left.status == 0 && left.journals == 0);
+    assert!(rt; (left.status, left.journals) == (0, 0));
     assert!(rt; left.out.written().is_empty() && left.err.written().is_empty());
-    let seen = seen?;
-    assert!(rt; seen.asked.as_slice() == PASSED_ON);
-    assert!(rt; seen.taken.as_slice() == TAKEN);
-    Ok(())
+    assert!(rt; seen.asked.as_slice() == PASSED_ON && seen.taken.as_slice() == TAKEN);
 }

@@ -1,5 +1,5 @@
-//! Tests of the net over sockets, each over loopback: what is answered and counted, what a client gets whose
-//! transaction was handed over, and the whole of `serve`.
+//! Tests of the net over sockets, each over loopback: what is answered and counted, who is named as ready,
+//! what a client gets whose transaction was handed over, and the whole of `serve`.
 #![tactic(auto)]
 
 #[cfg(test)]
@@ -10,3 +10,5 @@ mod closes;
 mod command;
 #[cfg(test)]
 mod loopback;
+#[cfg(test)]
+mod waits;

@@ -1,9 +1,11 @@
-//! Nets over loopback, and clients and origins of theirs, for the tests.
+//! Nets over loopback, and clients and origins of theirs, for the tests: where one does not come to stand,
+//! the test ends.
 ghost use Rattle.std.specs.Prelude.{◌<◌, length};
 
 use mio::net::TcpListener;
 use std::net::{Ipv4Addr, Net, SocketAddr};
-use std::{io, time};
+use std::process::Abort;
+use std::time;
 use ts_journal::Journal;
 use ts_link::{Clock, Got, Link};
 use ts_net::{Dialing, MonotonicClock, SocketLink, SystemConnector, dial};
@@ -14,79 +16,89 @@ use ts_wire::Mode;
 /// How many milliseconds a test waits for what is to come.
 pub const PATIENCE: u64 = 5_000;
 
+/// What a test says where the system refuses a socket.
+pub const REFUSED: &str = "the system gives a socket";
+
+/// What a test that wants memory says.
+pub const MEMORY: &str = "ample memory";
+
 /// The address of a port of this machine.
 pub fn local(port: u16) -> SocketAddr {
     SocketAddr::from((Ipv4Addr::LOCALHOST, port))
 }
 
 /// Who listens at a free port, and the port.
-pub fn listen<R: Net>(rt: &R) -> io::Result<(TcpListener, u16)> {
-    let listener = TcpListener::bind(rt, local(0))?;
-    let port = listener.local_addr()?.port();
-    Ok((listener, port))
+pub fn listen<R: Net + Abort>(rt: &R) -> (TcpListener, u16) {
+    let listener = TcpListener::bind(rt, local(0)).expect(rt, REFUSED);
+    let port = listener.local_addr().expect(rt, REFUSED).port();
+    (listener, port)
 }
 
 /// A port at which nobody listens.
-pub fn free_port<R: Net>(rt: &R) -> io::Result<u16> {
-    let (listener, port) = listen(rt)?;
+pub fn free_port<R: Net + Abort>(rt: &R) -> u16 {
+    let (listener, port) = listen(rt);
     drop(listener);
-    Ok(port)
+    port
 }
 
-/// A connection to a port of this machine.
-pub fn connect<R: Net>(rt: &R, port: u16) -> io::Result<SocketLink> {
+/// A connection to a port of this machine, if somebody listens there.
+pub fn try_connect<R: Net>(rt: &R, port: u16) -> Option<SocketLink> {
     match dial(&mut SystemConnector::new(rt, local(port))) {
-        Dialing::Origin(link) => Ok(link),
-        Dialing::Failed => Err(io::Error::other("nobody listens")),
+        Dialing::Origin(link) => Some(link),
+        Dialing::Failed => None,
+    }
+}
+
+/// A connection to a port of this machine, at which somebody listens.
+pub fn connect<R: Net + Abort>(rt: &R, port: u16) -> SocketLink {
+    match try_connect(rt, port) {
+        Some(link) => link,
+        None => panic!(rt; "nobody listens"),
     }
 }
 
 /// The text of the address of a port of this machine.
-pub fn text_of<R: AllocGlobal>(rt: &R, port: u16) -> io::Result<String> {
-    Ok(format!(in rt.alloc(); "localhost:{port}")?)
+pub fn text_of<R: AllocGlobal + Abort>(rt: &R, port: u16) -> String {
+    format!(in rt.alloc(); "localhost:{port}").expect(rt, MEMORY)
 }
 
 /// Lets a net begin before an origin, and gives the port at which it listens.
-pub fn begin<R: Net + AllocGlobal, C: Clock>(
+pub fn begin<R: Net + AllocGlobal + Abort, C: Clock>(
     rt: &R,
     net: &mut SocketNet<'_, R, C>,
     origin: u16,
-) -> io::Result<u16> {
-    let port = free_port(rt)?;
-    let answer = ts_txn::Net::begin(
-        net,
-        text_of(rt, port)?.as_str(),
-        text_of(rt, origin)?.as_str(),
-    );
-    if answer == Began::Ready {
-        Ok(port)
-    } else {
-        Err(io::Error::other("the net did not begin"))
-    }
+) -> u16 {
+    let port = free_port(rt);
+    let listen = text_of(rt, port);
+    let origin = text_of(rt, origin);
+    let began = ts_txn::Net::begin(net, listen.as_str(), origin.as_str());
+    assert!(rt; began == Began::Ready);
+    port
 }
 
 /// The next client of a net, which is waited for.
-pub fn accept<R: Net + time::Clock, C: Clock>(
+pub fn accept<R: Net + time::Clock + Abort, C: Clock>(
     rt: &R,
     net: &mut SocketNet<'_, R, C>,
-) -> io::Result<SocketLink> {
+) -> SocketLink {
     let clock = MonotonicClock::new(rt);
     for _ in 0..PATIENCE {
         match ts_txn::Net::accept(net) {
-            Accepted::Client(link) => return Ok(link),
+            Accepted::Client(link) => return link,
             Accepted::Again => clock.pause(1),
             Accepted::Closed | Accepted::Failed => break,
         }
     }
-    Err(io::Error::other("no client came"))
+    panic!(rt; "no client came")
 }
 
 /// What is left of a transaction of this client and its origin, if it had one.
-pub fn retired<R: AllocGlobal>(
+pub fn retired<R: AllocGlobal + Abort>(
     rt: &R,
     client: SocketLink,
     origin: Option<SocketLink>,
-) -> io::Result<Retired<SocketLink, SocketLink>> {
+) -> Retired<SocketLink, SocketLink> {
+    let journal = Journal::make(rt.alloc(), 0).expect(rt, MEMORY);
     let parts = TxnParts {
         number: client.name(),
         client,
@@ -98,10 +110,7 @@ pub fn retired<R: AllocGlobal>(
         cuts: Vec::new(rt.alloc()),
         end: None,
     };
-    match Journal::make(rt.alloc(), 0) {
-        Ok(journal) => Ok(Retired { parts, journal }),
-        Err(_) => Err(io::Error::other("no memory")),
-    }
+    Retired { parts, journal }
 }
 
 /// Reads until there are bytes, and gives the answer.
