@@ -1,5 +1,5 @@
 -- A configuration on each of whose lines some part of the program acts has no rule of a session.
-use Rattle.std.proofs.Common.{◌≡◌, ℕ, ◌+◌, List, [], ◌∷◌, ◌++◌, Bool, true, false, cond, Option, Some, None, Ok, refl, ap, sym, ◌∙◌, subst, append-nil}
+use Rattle.std.proofs.Common.{◌≡◌, ℕ, ◌+◌, List, [], ◌∷◌, ◌++◌, Bool, true, false, cond, Some, None, Ok, refl, ap, sym, ◌∙◌, subst, append-nil}
 use Rattle.std.specs.Prelude.{filter, flat_map, not}
 use Rattle.std.specs.List.{AllByRecursion, AllZip}
 use Rattle.ts_config.proofs.ValueReads.{meaning_value}

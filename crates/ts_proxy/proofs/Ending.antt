@@ -24,7 +24,7 @@ use Rattle.ts_proxy.specs.Outcome.{lines_filled, most_append, most_config, most_
 use Rattle.ts_proxy.specs.Outcome.{outcome_of, performed, named_filled, set_up, understood, worked}
 use Rattle.ts_proxy.specs.Idle.{first_idle}
 use Rattle.ts_proxy.specs.Performed.{IsPerformed, NamesFiles}
-use Rattle.ts_proxy.specs.Took.{TookNothing, TookSome, TookWhole}
+use Rattle.ts_proxy.specs.Took.{TookSome, TookWhole}
 use Rattle.ts_proxy.specs.Words.{Command, Transform, Replay, Task, Over, Make, Serve, config_in, input_in}
 use Rattle.ts_proxy.specs.Words.{Serves, is_told}
 

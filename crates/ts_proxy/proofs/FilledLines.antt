@@ -1,12 +1,12 @@
 -- The lines of a configuration, filled one by one.
-use Rattle.std.proofs.Common.{◌≡◌, ◌+◌, ◌≤◌, All, drop, get_or, ℕ, List, [], ◌∷◌, ◌++◌, Option, Some, None, Result, Ok, Err, true, false}
-use Rattle.std.proofs.Common.{refl, sym, ap, ◌∙◌, length, subst, arith}
+use Rattle.std.proofs.Common.{◌≡◌, ◌+◌, ◌≤◌, All, drop, get_or, ℕ, List, [], ◌∷◌, Option, Some, None, Result, Ok, Err, true, false}
+use Rattle.std.proofs.Common.{sym, ap, ◌∙◌, length, subst, arith}
 use Rattle.std.proofs.lemmas.List.{drop_more, length-map}
 use Rattle.std.specs.Prelude.{IfErr, IfOk, IfSome, IsSome, IsSomeAnd}
 use Rattle.std.specs.Str.{IsUtf8}
 use Rattle.ts_config.specs.Reading.{AreFew, IsConfiguration}
 use Rattle.ts_config.specs.Rules.{HasPlainRule}
-use Rattle.ts_config.specs.Setup.{ConfigLines, HasSameFiles, acting_plugins, file_at, lines_of, untexted, untexted_intercept, untexted_lines}
+use Rattle.ts_config.specs.Setup.{ConfigLines, HasSameFiles, acting_plugins, lines_of, untexted, untexted_intercept, untexted_lines}
 use Rattle.ts_config.specs.Value.{Good, config_of}
 use Rattle.ts_config.specs.declared.setup.FilePlace.{FilePlace}
 use Rattle.ts_config.specs.declared.setup.Setup.{Setup}

@@ -80,7 +80,7 @@ set_up files config next =
     (λ lines places. acted (first_idle bytes) (lines_filled files places lines next)))
 
 -- what a command makes of the lines and its input: `transform` passes a body through the transform lines, and
--- those of hook plugins have no effect on it; `replay` runs a recording under all of them
+-- lines of other kinds have no effect on it; `replay` runs a recording under all of them
 abbrev pub worked : Command → ConfigLines → List ℕ → Outcome
 worked Transform lines input = Text (compose_lines lines.transforms input)
 worked Replay lines input = Report lines input

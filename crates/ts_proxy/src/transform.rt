@@ -75,7 +75,7 @@ fn send_body<K: Sink>(
 }
 
 /// Writes a body through the transform lines of a configuration, both of which the shelf has under these
-/// names. The lines of hook plugins have no effect on it.
+/// names. Lines of other kinds have no effect on it.
 pub fn perform_transform<S: Shelf, K: Sink>(
     alloc: Global,
     task: &TransformTask<'_>,

@@ -97,7 +97,7 @@ fn stands_between<R: Abort + AllocGlobal + Threads + Wait + Sync>(
         return false;
     };
     let few = before.counts().handled < 20 && behind.counts().handled < 20;
-    few && between.counts().handled > 200
+    few && between.counts().handled > 100
 }
 
 // The journal of a transaction that passes many pieces on stands between those of two that do next to
