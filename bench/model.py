@@ -11,6 +11,7 @@ with the program's status. docs/CONFIGURATION.md, docs/REPLAY.md, docs/HTTP.md a
 pages that it was written from; it does not look at the order of events, for what is written does not depend
 on it. bench/fuzz compares the program with it.
 """
+import collections
 import os
 import re
 import sys
@@ -207,11 +208,12 @@ PLUGINS = {b"denylist.so": deny_list, b"header.so": header_rule, b"session.so": 
 
 class Config:
     """The lines of each kind in their order: transforms, each a name and its values, hook plugins, request bodies,
-    intercepts and taps. `idle` is the first line on which nobody acts yet, None where there is none."""
+    intercepts and taps. `files` are the names of append lines, in the order of all lines, and `idle` is the first line
+    on which nobody acts yet, None where there is none."""
 
     def __init__(self):
         self.transforms, self.plugins, self.requests, self.intercepts, self.taps = [], [], [], [], []
-        self.idle = None
+        self.files, self.idle = [], None
 
     def add(self, line):
         """Whether somebody acts on the line."""
@@ -221,18 +223,23 @@ class Config:
             return True
         name, *rest = words
         if name in TRANSFORMS:
-            put(self.transforms, transform_line(name, rest), MOST_TRANSFORMS)
+            self.put_transform(self.transforms, transform_line(name, rest), MOST_TRANSFORMS)
         elif name in PLUGINS:
             put(self.plugins, PLUGINS[name](rest), MOST_PLUGINS)
         elif name == b"request.so":
-            put(self.requests, request_line(rest), MOST_REQUESTS)
+            self.put_transform(self.requests, request_line(rest), MOST_REQUESTS)
         elif name == b"intercept.so":
             put(self.intercepts, intercept_line(rest), MOST_INTERCEPTS)
         elif name == b"tap.so":
             put(self.taps, tap_line(rest), MOST_TAPS)
         else:
             raise BrokenRule("plugin")
-        return name in TRANSFORMS or name in (b"denylist.so", b"header.so")
+        return name in TRANSFORMS or name in (b"denylist.so", b"header.so", b"request.so")
+
+    def put_transform(self, lines, line, most):
+        put(lines, line, most)
+        if line[0] == "append_transform.so":
+            self.files.append(line[1])
 
 
 def put(lines, line, most):
@@ -470,12 +477,20 @@ def refusal(request):
         return 400
     if parts_of_target(request) is None:
         return 400
+    if is_in_chunks(request.head) and request.minor == 1 and content_length(request.head) is None:
+        return None
     if request.head.values(b"transfer-encoding"):
         return 501
-    length = content_length(request.head)
-    if length == -1:
-        return 400
-    return 501 if length else None
+    return 400 if content_length(request.head) == -1 else None
+
+
+def is_in_chunks(head):
+    return [coding.lower() for coding in head.values(b"transfer-encoding")] == [b"chunked"]
+
+
+def framing_of_request(request):
+    """"nothing", "chunks" or a length above 0, of a request that is taken."""
+    return "chunks" if is_in_chunks(request.head) else content_length(request.head) or "nothing"
 
 
 def is_denied(config, host):
@@ -485,14 +500,22 @@ def is_denied(config, host):
     return any(line[0] == "deny" and site.lower() in line[1] for line in config.plugins)
 
 
-def origin_head(request, config):
+def origin_head(request, config, framing):
+    """The head that the origin gets. That of a request with a body has no Expect, and a line more, which says how the
+    body is sent."""
     target, host, is_absolute = parts_of_target(request)
-    fields = ruled(passing_fields(request.head), config, "request")
+    passing = passing_fields(request.head)
+    sent = []
+    if framing != "nothing":
+        passing = [field for field in passing if field[0] != b"expect"]
+        has_length = framing != "chunks" and not config.requests
+        sent = [(b"content-length", b"%d" % framing) if has_length else (b"transfer-encoding", b"chunked")]
+    fields = ruled(passing, config, "request")
     if is_absolute:
         fields = [(name, host if name == b"host" else value) for name, value in fields]
     if all(name != b"host" for name, _ in fields):
         fields = [(b"host", host), *fields]
-    return printed(b"%b %b HTTP/1.1" % (request.method, target), [*fields, via(request.minor), CLOSE])
+    return printed(b"%b %b HTTP/1.1" % (request.method, target), [*fields, via(request.minor), CLOSE, *sent])
 
 
 # ---- responses
@@ -518,9 +541,8 @@ def framing_of(head, request):
     status, minor = int(head.first[2]), int(head.first[1])
     if request.is_head or status in (204, 304):
         return "nothing"
-    codings = head.values(b"transfer-encoding")
-    if codings:
-        return "chunks" if minor == 1 and [coding.lower() for coding in codings] == [b"chunked"] else "faulty"
+    if head.values(b"transfer-encoding"):
+        return "chunks" if minor == 1 and is_in_chunks(head) else "faulty"
     length = content_length(head)
     if length is None:
         return "close"
@@ -653,38 +675,62 @@ def own_answer(status, config, request):
 
 # ---- transactions
 
+# What a transaction comes to: the origin's head, the body that it gets, None where the client sends none or it is
+# refused, how the transaction ended, the client's head and the client's body.
+Outcome = collections.namedtuple("Outcome", "asked upload end head body")
+
 
 def outcome(client, origin, config, texts):
-    """What a transaction comes to: the origin's head, how it ended, the client's head, the client's body."""
+    """What a transaction comes to."""
     if not client:
-        return b"", "whole", b"", b""
+        return Outcome(b"", None, "whole", b"", b"")
     request = read_request(client)
     status = 400 if request is None else refusal(request)
     if status is None and is_denied(config, parts_of_target(request)[1]):
         status = 403
     if status:
-        head, body = own_answer(status, config, request)
-        return b"", "whole", head, body
-    asked = origin_head(request, config)
+        return Outcome(b"", None, "whole", *own_answer(status, config, request))
+    framing = framing_of_request(request)
+    asked = origin_head(request, config, framing)
+    upload, is_refused = upload_of(client[request.head.length :], framing, config, texts)
+    if is_refused:
+        return Outcome(asked, None, "whole", *own_answer(400, config, request))
+    return Outcome(asked, upload, *answer(request, origin, config, texts))
+
+
+def upload_of(text, framing, config, texts):
+    """The body that the origin gets of what stands behind a request's head, None where there is none, and whether the
+    upload is refused: it is where the client's body is not whole, and no line finished early."""
+    if framing == "nothing":
+        return None, False
+    body, end = body_of(text, framing)
+    is_refused = end != "whole" and not finish_early(body, config.requests, texts)
+    return transformed(body, config.requests, texts), is_refused
+
+
+def answer(request, origin, config, texts):
+    """What the origin's bytes come to: how the transaction ends, the client's head and its body."""
     found = read_response(origin)
     framing = framing_of(found[0], request) if found else "faulty"
     if framing == "faulty":
-        head, body = own_answer(502, config, request)
-        return asked, "whole", head, body
+        return "whole", *own_answer(502, config, request)
     response, at = found
     body, end = body_of(origin[at:], framing)
     lines = acting_lines(response, config)
     head = client_head(response, config, framing_line(response, framing, request, bool(lines)))
     if framing == "nothing":
-        return asked, end, head, body
+        return end, head, body
     if finish_early(body, lines, texts):
         end = "whole"
-    return asked, end, head, transformed(body, lines, texts)
+    return end, head, transformed(body, lines, texts)
 
 
-def block(number, asked, end, head, body):
-    text = b"txn %d\n%bend %b\n" % (number, counted(b"request", asked), end.encode()) + counted(b"head", head)
-    return text + counted(b"body", body) if end == "whole" else text
+def block(number, found):
+    text = b"txn %d\n" % number + counted(b"request", found.asked)
+    if found.upload is not None:
+        text += counted(b"upload", found.upload)
+    text += b"end %b\n" % found.end.encode() + counted(b"head", found.head)
+    return text + counted(b"body", found.body) if found.end == "whole" else text
 
 
 def counted(word, text):
@@ -694,13 +740,13 @@ def counted(word, text):
 def outcome_of(transaction, config, texts):
     """The same of a transaction of a recording: a client that leaves takes the front of a head."""
     client, origin, leave = transaction
-    asked, end, head, body = outcome(client, origin, config, texts)
-    return (asked, end, head, body) if leave is None else (asked, "left", head[:leave], b"")
+    found = outcome(client, origin, config, texts)
+    return found if leave is None else found._replace(end="left", head=found.head[:leave], body=b"")
 
 
 def report(config, texts, version, transactions):
     outcomes = (outcome_of(transaction, config, texts) for transaction in transactions)
-    blocks = (block(number, *outcome) for number, outcome in enumerate(outcomes, 1))
+    blocks = (block(number, outcome) for number, outcome in enumerate(outcomes, 1))
     return b"tsx-report %d\n" % version + b"".join(blocks) + b"done\n"
 
 
@@ -749,7 +795,7 @@ def generate(seed, count, size):
     draws, config = Draws(int(seed)), read_config(GENERATED_CONFIG)
     responses = [generated_response(draws, int(size)) for _ in range(int(count))]
     ended = [outcome(GENERATED_REQUEST, response, config, {}) for response in responses]
-    bodies = [body for _, end, _, body in ended if end == "whole"]
+    bodies = [found.body for found in ended if found.end == "whole"]
     total = 0
     for byte in b"".join(bodies):
         total = (31 * total + byte) % 2**64
@@ -777,8 +823,7 @@ def read_setup(name):
     config = read_config(read_file(name, MOST_CONFIGURATION))
     if config.idle is not None:
         raise Fault(3, b"configuration line %d: arguments" % config.idle)
-    files = [line[1] for line in config.transforms if line[0] == "append_transform.so"]
-    return config, {file: read_file(file, MOST_TEXT) for file in files}
+    return config, {file: read_file(file, MOST_TEXT) for file in config.files}
 
 
 def replay(config_name, recording_name):

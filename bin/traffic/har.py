@@ -34,7 +34,7 @@ def exchange_of(entry, pauses):
         raise LeftOut("it has no answer")
     method = octets(request["method"])
     first = b"%b %b HTTP/1.1" % (method, target_of(url))
-    posted = octets(request.get("postData", {}).get("text", ""))
+    posted = posted_of(request)
     asked = wire.message(first, request_fields(request, url, posted), posted)
     status_line = b"HTTP/1.1 %03d %b" % (status, octets(response.get("statusText", "")))
     body = b"" if wire.has_no_body(status, method) else body_of(response["content"])
@@ -42,6 +42,19 @@ def exchange_of(entry, pauses):
     versions = (request.get("httpVersion", ""), response.get("httpVersion", ""))
     is_rewritten = any(is_later(version) for version in versions)
     return Exchange(asked, answered, is_rewritten, origin_pause=waited(entry) if pauses else 0)
+
+
+def posted_of(request):
+    """The body of a request. Of a file that was sent, and of a form with one, a browser may keep the size alone."""
+    text = (request.get("postData") or {}).get("text") or ""
+    if not text and (request.get("bodySize", 0) > 0 or said_length(request) > 0):
+        raise LeftOut("the body of its request is not in the file")
+    return octets(text)
+
+
+def said_length(request):
+    """The length that a request's fields say, 0 where they say none."""
+    return wire.length_of([(name.lower(), value) for name, value in fields_of(request["headers"])]) or 0
 
 
 def waited(entry):

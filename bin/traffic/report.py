@@ -10,19 +10,20 @@ class NoReport(Exception):
 
 
 class Block:
-    """What a report says of one transaction; `body` is None where it says nothing of one."""
+    """What a report says of one transaction; `upload` and `body` are None where it says nothing of one."""
 
-    def __init__(self, request, end, head, body):
-        self.request, self.end, self.head, self.body = request, end, head, body
+    def __init__(self, request, upload, end, head, body):
+        self.request, self.upload, self.end, self.head, self.body = request, upload, end, head, body
 
     def text(self, number):
-        request, head = counted(b"request", self.request), counted(b"head", self.head)
-        lines = b"txn %d\n%bend %b\n%b" % (number, request, self.end, head)
-        return lines if self.body is None else lines + counted(b"body", self.body)
+        asked = counted(b"request", self.request) + counted(b"upload", self.upload)
+        given = counted(b"head", self.head) + counted(b"body", self.body)
+        return b"txn %d\n%bend %b\n%b" % (number, asked, self.end, given)
 
 
 def counted(word, text):
-    return b"%b %d\n%b\n" % (word, len(text), text)
+    """The lines of a text that is counted, if there is one."""
+    return b"" if text is None else b"%b %d\n%b\n" % (word, len(text), text)
 
 
 class Reader:
@@ -53,9 +54,10 @@ class Reader:
     def block(self, number):
         self.line(rb"txn %d\n" % number)
         request = self.counted(b"request")
+        upload = self.counted(b"upload") if self.text.startswith(b"upload ", self.at) else None
         end = self.line(rb"end ([a-z]+)\n")[1]
         head = self.counted(b"head")
-        return Block(request, end, head, self.counted(b"body") if end == b"whole" else None)
+        return Block(request, upload, end, head, self.counted(b"body") if end == b"whole" else None)
 
 
 def read(text):
