@@ -48,6 +48,12 @@ fn answer(
     panic!(rt; "a write failed")
 }
 
+// Sends all these bytes, which are some, in one write.
+fn send(rt: &impl Abort, client: &mut SocketLink, bytes: &[u8]) {
+    assert!(rt; !bytes.is_empty());
+    assert!(rt; client.write(bytes) == Put::Took(bytes.len()));
+}
+
 // A client sends all these bytes, of which one read takes some, and is answered and handed over. Gives the
 // client, and how much it has read.
 fn serve<R: net::Net + time::Clock + AllocGlobal + Abort, C: Clock>(
@@ -56,11 +62,10 @@ fn serve<R: net::Net + time::Clock + AllocGlobal + Abort, C: Clock>(
     port: u16,
     sent: &[u8],
 ) -> (SocketLink, usize) {
-    assert!(rt; !sent.is_empty());
     let bytes = vec![in rt.alloc(); b'a'; ANSWER].expect(rt, MEMORY);
     let mut client = connect(rt, port);
     let mut served = accept(rt, net);
-    assert!(rt; client.write(sent) == Put::Took(sent.len()));
+    send(rt, &mut client, sent);
     let _first = read_waiting(rt, &mut served, &mut [0; 35]);
     let heard = answer(rt, &mut served, &mut client, bytes.as_slice());
     let taken = net.retire(retired(rt, served, None));
