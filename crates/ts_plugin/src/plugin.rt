@@ -11,7 +11,7 @@ use crate::replying::reply_of;
 use std::alloc::Global;
 use std::snapshot::Snapshot;
 use ts_config::PluginLine;
-use ts_group::{Asked, Cx, Want, World};
+use ts_group::{Asked, Cx, Rouse, Want, World};
 use ts_journal::{Event, Slotted};
 use ts_link::NoMemory;
 
@@ -22,7 +22,8 @@ pub struct Plugin {
     pub(crate) line: PluginLine,
 }
 
-/// What a slot promises of the plugin in it, which is its first tenant. The line is for contracts alone, and takes no memory.
+/// What a slot promises of the plugin in it, which is its first tenant. The line is for contracts alone, and
+/// takes no memory.
 #[derive(Drop)]
 pub struct PluginTag {
     /// The line that it was made of.
@@ -120,4 +121,10 @@ impl World for Plugin {
     ghost left_given = { λ p s turn. refl };
 
     ghost rests = { λ tag p s roles f h. own_lives s h };
+}
+
+/// It waits for nothing.
+#[tactic(auto, using(ts_group::proofs::Grows::grows_refl))]
+impl Rouse for Plugin {
+    fn rouse(&mut self, _cx: &mut Cx) {}
 }

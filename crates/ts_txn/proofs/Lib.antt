@@ -6,6 +6,7 @@ pub mod Coursing
 pub mod Coverage
 pub mod Events
 pub mod Fitting
+pub mod Forward
 pub mod Giving
 pub mod Handling
 pub mod Leading

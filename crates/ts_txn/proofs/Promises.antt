@@ -45,7 +45,7 @@ module _ {C O Q : Type 0} (client : link.Ghosts C) (origin : link.Ghosts O) (bot
       }
 
   -- the core stays the same
-  promises_core : u.core ≡ t.core → (is_fresh_on t.course ≡ false → is_fresh_on u.course ≡ false)
+  pub promises_core : u.core ≡ t.core → (is_fresh_on t.course ≡ false → is_fresh_on u.course ≡ false)
       → KeepsPromises (IsTxnOf client origin) IsRightFor MayAskGroup t u
   promises_core same started =
       promises_on (subst (λ (k : Core C O). StepKeeps client origin both t.core k) (sym same)

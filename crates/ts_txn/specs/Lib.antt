@@ -10,5 +10,6 @@ pub mod MemNet
 pub mod Net
 pub mod PairStock
 pub mod Resting
+pub mod Rousing
 pub mod Sending
 pub mod World

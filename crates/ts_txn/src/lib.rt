@@ -47,6 +47,7 @@ mod mem_net;
 mod net;
 mod pair_stock;
 mod retired;
+mod rouse;
 mod txn;
 
 pub use laws::are_limits;
