@@ -29,6 +29,7 @@ use Rattle.ts_wire.specs.Frames.{end_of}
 use Rattle.ts_request.specs.BodyWay.{Writes, end_cost, more_comes, pass_cost, passage_left, to_come, to_read}
 use Rattle.ts_request.specs.BodyWay.{write_cost}
 use Rattle.ts_request.specs.Carried.{UploadsStep}
+use Rattle.ts_request.specs.CarrierLaws.{passes_less}
 use Rattle.ts_request.specs.Carrying.{carrier_look, request_lines, without_line}
 use Rattle.ts_request.specs.Front.{FrontSeen, body_most}
 use Rattle.ts_request.specs.Pairing.{CarrierPair, CarrierRefuses, IsEnded, SendsBody, WayBy, all_sent}
@@ -78,11 +79,6 @@ passes_sum (l ∷ ls) m n =
 passes_least : (ls : List TransformLine) (n : ℕ) → n ≤ passes ls n
 passes_least [] n = omega arith
 passes_least (l ∷ ls) n = omega arith
-
-pub passes_less : (ls : List TransformLine) (m n : ℕ) → m ≤ n → passes ls m ≤ passes ls n
-passes_less [] m n less = less
-passes_less (l ∷ ls) m n less =
-    let rest : passes ls m ≤ passes ls n = passes_less ls m n less in omega (arith, rest, less)
 
 stages_within : {P : Type 0} (ss : List (Stage P)) (ls : List TransformLine) (n : ℕ) → length ss ≤ length ls
     → stage_passes ss n ≤ passes ls n

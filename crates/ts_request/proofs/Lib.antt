@@ -6,6 +6,7 @@ pub mod BodyReads
 pub mod BodySteps
 pub mod BodyWay
 pub mod Delivering
+pub mod EmptyLines
 pub mod Finishing
 pub mod FoundUpload
 pub mod FrontLink

@@ -118,7 +118,7 @@ stage_kept S.Passing new framing is stays = absurd (let wrong : S.Passing ≡ S.
 stage_kept (S.Uploading other) new framing is stays = stays ∙ is
 
 -- less to read is less to do
-passes_less : (ls : List TransformLine) (m n : ℕ) → m ≤ n → passes ls m ≤ passes ls n
+pub passes_less : (ls : List TransformLine) (m n : ℕ) → m ≤ n → passes ls m ≤ passes ls n
 passes_less [] m n less = less
 passes_less (l ∷ ls) m n less =
     let rest : passes ls m ≤ passes ls n = passes_less ls m n less in omega (arith, rest, less)

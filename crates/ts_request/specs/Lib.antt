@@ -8,6 +8,7 @@ pub mod Finding
 pub mod Front
 pub mod Held
 pub mod Laws
+pub mod Limits
 pub mod Lines
 pub mod Making
 pub mod Pairing

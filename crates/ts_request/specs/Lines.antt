@@ -1,8 +1,9 @@
--- The lines of a head, by their bytes, and which of them stay (RFC 9112, sections 2.2 and 5.1).
-use Rattle.std.specs.Prelude.{ℕ, Bool, not, List, [], ◌∷◌, ◌++◌, if◌then◌else◌, ◌==◌}
-use Rattle.std.specs.List.{before_first}
+-- The lines of a head, by their bytes, which of them stay, and the empty ones ahead of it (RFC 9112, sections
+-- 2.2 and 5.1).
+use Rattle.std.specs.Prelude.{◌≡◌, ℕ, Bool, true, not, ◌||◌, List, [], ◌∷◌, ◌++◌, if◌then◌else◌, ◌==◌}
+use Rattle.std.specs.List.{before_first, list_all}
 use Rattle.http_header.specs.Token.{lowercase}
-use Rattle.httparse.specs.Ascii.{colon, line_feed}
+use Rattle.httparse.specs.Ascii.{carriage_return, colon, line_feed}
 use Rattle.ts_request.specs.Upload.{speaks_of_body}
 
 abbrev pub is_colon : ℕ → Bool
@@ -10,6 +11,14 @@ is_colon b = b == colon
 
 abbrev pub is_line_feed : ℕ → Bool
 is_line_feed b = b == line_feed
+
+-- a byte of the end of a line
+abbrev pub is_end_byte : ℕ → Bool
+is_end_byte b = (b == carriage_return) || (b == line_feed)
+
+-- there is no other byte, so no line has begun that is not empty
+abbrev pub AreBlank : List ℕ → Type 0
+AreBlank bytes = list_all is_end_byte bytes ≡ true
 
 -- what stands before the line's first colon is no name that speaks of the body
 abbrev pub line_stays : List ℕ → Bool

@@ -9,7 +9,7 @@ ghost use Rattle.ts_request.specs.Text.{CannotEnd, Decides, before_last, is_head
 ghost use Rattle.ts_request.specs.Upload.{LacksUpload};
 
 use crate::finding::{Found, find_upload};
-use crate::lines::keep_lines;
+use crate::lines::{blank_len, keep_lines};
 use crate::stage::Stage;
 use std::alloc::Global;
 use std::marker::Model;
@@ -24,6 +24,8 @@ pub(crate) struct HeldText {
     room: Vec<u8>,
     // How many bytes of the room are shown, or will be if there is no upload.
     kept: usize,
+    // How many of these are of empty lines ahead of the head, while that is read.
+    blank: usize,
     // How many of these were given.
     shown: usize,
     // How long the head of an upload was.
@@ -39,6 +41,7 @@ impl Model for HeldText {
 
     ghost use Rattle.std.specs.Prelude.{◌≡◌, ◌≤◌, length, take, slice_range};
     ghost use Rattle.ts_wire.specs.Limits.{head_limit};
+    ghost use Rattle.ts_request.specs.Lines.{AreBlank};
 
     ghost view = { λ t. record {
       stage = t.stage;
@@ -49,7 +52,8 @@ impl Model for HeldText {
     } };
 
     ghost invariant = { λ t. (length t.room.items ≡ head_limit)
-        × (t.kept ≤ head_limit) × (t.from ≤ t.to) × (t.to ≤ head_limit) };
+        × (t.kept ≤ head_limit) × (t.from ≤ t.to) × (t.to ≤ head_limit)
+        × (t.blank ≤ t.kept) × AreBlank (take t.blank t.room.items) };
 }
 
 // The room for as many bytes as a head may have.
@@ -100,6 +104,7 @@ impl HeldText {
             stage: Stage::Heading,
             room,
             kept: 0,
+            blank: 0,
             shown: 0,
             used: 0,
             from: 0,
@@ -130,17 +135,24 @@ impl HeldText {
         self.kept += count_of(got);
         self.from = self.kept;
         self.to = self.kept;
+        self.blank = blank_len(&self.room, self.blank, self.kept);
         got
     }
 
     // Whether a head may end within the last `fresh` bytes that are held, or no more of it can be held. A head
-    // ends with a line feed, so one that comes byte by byte is read once a line, and not at each byte.
+    // ends with a line feed, and not among the empty lines ahead of it. So one that comes byte by byte is read
+    // once a line, and not at each byte nor at each of the empty lines, of which there may be thousands.
     fn may_end(&self, fresh: usize) -> bool
         requires { fresh ≤ length self.now.front }
         ensures { result ≡ false → CannotEnd fresh self.now.front }
     {
-        let more = &self.room[self.kept - fresh..self.kept];
-        self.kept == MAX_HEAD || more.contains(&b'\n')
+        if self.kept == MAX_HEAD {
+            return true;
+        }
+        if self.blank == self.kept {
+            return false;
+        }
+        self.room[self.kept - fresh..self.kept].contains(&b'\n')
     }
 
     // Looks whether it is known by now what is shown of the client, once `fresh` more bytes of it came.
@@ -159,6 +171,7 @@ impl HeldText {
             Found::More => {}
             Found::Never => self.stage = Stage::Passing,
             Found::Upload { framing, used } => {
+                self.blank = 0;
                 self.to = self.kept;
                 self.from = used;
                 self.used = used;

@@ -18,6 +18,6 @@ mod uploading;
 pub use carrier::{Carrier, HeadState, MOST_HELD};
 pub use delivery::{delivered, paired};
 pub use front::Front;
-pub use laws::{one_shown, one_upload};
+pub use laws::{limits, one_shown, one_upload};
 pub use passage::Passage;
 pub use stage::Stage;

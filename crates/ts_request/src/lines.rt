@@ -1,8 +1,10 @@
-//! The lines of a request's head that are shown, put together in their room.
-ghost use Rattle.std.specs.Prelude.{◌≡◌, ◌≤◌, ◌+◌, ◌-◌, ◌++◌, length, min, take, drop, slice_range};
+//! The lines of a request's head that are shown, put together in their room, and the empty lines ahead of it.
+ghost use Rattle.std.specs.Prelude.{◌≡◌, ◌≤◌, ◌<◌, ◌+◌, ◌-◌, ◌++◌, true, length, get_or, min, take, drop};
+ghost use Rattle.std.specs.Prelude.{slice_range};
 ghost use Rattle.std.specs.List.{before_first, position_or_len};
 ghost use Rattle.http_header.specs.Token.{lowercase};
-ghost use Rattle.ts_request.specs.Lines.{is_colon, is_line_feed, kept_line, kept_lines, line_stays};
+ghost use Rattle.ts_request.specs.Lines.{AreBlank, is_colon, is_end_byte, is_line_feed, kept_line, kept_lines};
+ghost use Rattle.ts_request.specs.Lines.{line_stays};
 ghost use Rattle.ts_request.specs.Upload.{speaks_of_body};
 
 fn is_colon(b: u8) -> bool
@@ -15,6 +17,41 @@ fn is_line_feed(b: u8) -> bool
     ensures { result ≡ is_line_feed b }
 {
     b == b'\n'
+}
+
+fn is_end_byte(b: u8) -> bool
+    ensures { result ≡ is_end_byte b }
+{
+    b == b'\r' || b == b'\n'
+}
+
+// Whether the byte at this place is of an empty line too, where all before it are. A CR behind a CR is not, since
+// no line feed makes the two an empty line.
+fn goes_on_blank(bytes: &[u8], at: usize) -> bool
+    requires { at < length bytes.now }
+    ensures { result ≡ true → is_end_byte (get_or bytes.now at 0) ≡ true }
+{
+    let doubled = at > 0 && bytes[at] == b'\r' && bytes[at - 1] == b'\r';
+    is_end_byte(bytes[at]) && !doubled
+}
+
+// How many of the first `kept` bytes of the room are of empty lines, ahead of all others: the first `known`
+// are. Only bytes behind these are looked at.
+pub(crate) fn blank_len(room: &[u8], known: usize, kept: usize) -> usize
+    requires known { known ≤ kept }
+    requires fits { kept ≤ length room.now }
+    requires blank { AreBlank (take known room.now) }
+    ensures blank { AreBlank (take result room.now) }
+    ensures within { result ≤ kept }
+{
+    let mut len = known;
+    'blank: while len < kept {
+        if !goes_on_blank(room, len) {
+            return len;
+        }
+        len += 1;
+    }
+    len
 }
 
 // The place of the first colon, or the length where there is none.

@@ -1,10 +1,20 @@
--- What came stands behind what was held.
-use Rattle.std.proofs.Common.{◌≡◌, ◌≤◌, ◌+◌, ◌++◌, [], length, ap, sym, take, ◌∙◌, arith}
+-- What came stands behind what was held, whose empty lines are as they were.
+use Rattle.std.proofs.Common.{◌≡◌, ◌≤◌, ◌+◌, ◌++◌, [], length, ap, subst, sym, take, ◌∙◌, arith}
 use Rattle.std.specs.List.{slice_range}
 use Rattle.ts_link.specs.LinkAnswers.{count_got}
+use Rattle.ts_request.specs.Lines.{AreBlank}
 use Rattle.ts_request.specs.Text.{Text}
+use Rattle.ts_request.proofs.EmptyLines.{blank_stays}
 use Rattle.ts_request.proofs.HeldBytes.{front_more, no_slice}
 use Rattle.ts_request.proofs.held.HeldText.fill.Goals as goal
+
+pub blank_len-self-inside-requires-clause-blank : goal.blank_len-self-inside-requires-clause-blank
+blank_len-self-inside-requires-clause-blank g c =
+    let x = c.self.inside in
+    let reads = c.read_behind-got.ensures.reads in
+    let within : x.kept ≤ length x.room.items = omega (arith, reads.long) in
+    subst (λ r. AreBlank (take x.blank r)) (sym (c.deref.ensures.value ∙ reads.room_is))
+    (blank_stays x.room.items reads.into x.kept x.blank c.self.invariant.4 within c.self.invariant.5)
 
 pub returns-clause-fills : goal.returns-clause-fills
 returns-clause-fills g c =
