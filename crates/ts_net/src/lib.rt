@@ -21,7 +21,7 @@ pub use clock::{MonotonicClock, whole_milliseconds};
 pub use dialer::{Connector, Dialing, ORIGIN_NAME, SystemConnector, dial};
 pub use half_closed::{HalfClosed, LINGER};
 pub use heard::{got_of, is_final, put_of};
-pub use laws::are_limits;
+pub use laws::{are_error_numbers, are_limits, are_names};
 pub use lingering::{LAST_LINGER, Lingering, MOST_LINGERING, PASSED_AT_ONCE};
 pub use listener::{Acceptor, Arrival, Listener, SystemAcceptor, SystemListener};
 pub use poller::{LISTENER, MOST_TOLD, Poller, Watched};
