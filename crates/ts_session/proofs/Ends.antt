@@ -1,0 +1,547 @@
+-- What a span comes to: each of its calls is one of a link, and at its end its client is that of the session.
+use Rattle.std.proofs.Common.{◌≡◌, ◌⊎◌, inl, inr, ℕ, ◌+◌, ◌-◌, ◌<◌, ◌≤◌, Bool, true, false, ◌||◌, List, [], ◌++◌}
+use Rattle.std.proofs.Common.{length, take, drop, refl, sym, ap, subst, ⊎_elim, ◌∙◌, arith, append_assoc}
+use Rattle.std.proofs.Common.{length-append, take-append-drop}
+use Rattle.std.proofs.Common.{None}
+use Rattle.std.proofs.lemmas.Bool.{cases_lt, or_cases}
+use Rattle.std.proofs.lemmas.List.{append-nil, length-drop, length-take-le, take_all}
+use Rattle.ts_lists.proofs.Fronts.{front_was_there, rest_by_length}
+use Rattle.httparse.specs.Grammar as grammar
+use Rattle.httparse.specs.Grammar.{print_request}
+use Rattle.ts_link.specs.Counts.{one_more}
+use Rattle.ts_link.specs.Link.{Calls, GivesMore, Lacks, Look, Reads, Writes}
+use Rattle.ts_link.specs.LinkAnswers.{count_got, got_again, got_failed, put_again, writes_after}
+use Rattle.ts_link.specs.declared.link.Got.{Got}
+use Rattle.ts_link.specs.declared.link.Put.{Put}
+use Rattle.ts_link.specs.declared.link.Put.TheVariants as P
+use Rattle.ts_wire.specs.Heads.{BeginsWithRequest}
+use Rattle.ts_wire.specs.RequestEnds.{end_of_request}
+use Rattle.ts_wire.specs.declared.ends.RequestEnd.TheVariants as E
+use Rattle.ts_session.specs.Course.{EndsEmpty, HoldsHead, fresh_request, is_head}
+use Rattle.ts_session.specs.Course.{GoesOnBehind, IsKnown, IsPlaced, IsSound, MayGoOn, RespondsBy}
+use Rattle.ts_session.specs.Course.{StandsBy, fresh_response, given_before, given_on, is_dropped, left_by}
+use Rattle.ts_session.specs.Course.{request_through, since, span_look, taken_before, written_by}
+use Rattle.ts_session.specs.Kept.{IsKept, close_line}
+use Rattle.ts_session.specs.Limits.{most_places}
+use Rattle.ts_session.specs.Lines.{IsCut}
+use Rattle.ts_session.specs.Finding.{Decides}
+use Rattle.ts_session.specs.Reading.{IsUnread, MovesOn, MovesTo, Rests, Shows}
+use Rattle.ts_session.specs.Requests.{IsBodyBy, IsRequest, IsRequestWith}
+use Rattle.ts_session.specs.Session.{GoesBehind, IsNew, IsNext, IsSent, IsSession, MayContinue}
+use Rattle.ts_session.specs.Session.{PollsSpan}
+use Rattle.ts_session.specs.Writing.{LeavesAll, WritesOn}
+use Rattle.ts_session.specs.declared.course.Course.{Course}
+use Rattle.ts_session.specs.declared.lines.Lines.{Lines}
+use Rattle.ts_session.specs.declared.request.Reading.{Reading}
+use Rattle.ts_session.specs.declared.request.Reading.TheVariants as R
+use Rattle.ts_session.specs.declared.request.Request.{Request}
+use Rattle.ts_session.specs.declared.response.Response.{Response}
+use Rattle.ts_session.specs.declared.response.Sending.{Sending}
+use Rattle.ts_session.specs.declared.response.Sending.TheVariants as S
+use Rattle.ts_session.proofs.FoundHeads.{begins_more, begins_some, lacks_none}
+use Rattle.ts_session.proofs.Giving.{decided}
+use Rattle.ts_session.proofs.LineFronts.{new_shows}
+use Rattle.ts_session.proofs.LinkCalls.{agains_none}
+use Rattle.ts_session.proofs.Parts.{given_is, since_is}
+use Rattle.ts_session.proofs.Writes.{request_left, request_stays}
+
+-- ---- a read
+
+-- where the line was dropped, the request is left as it is
+asks_stay : (x : Sending) (r s : Request) (place : ℕ) → MayGoOn x r place → Rests r s → x ≡ S.Dropped
+    → s ≡ r
+asks_stay S.Head r s place rule rests dropped = absurd (cc)
+asks_stay S.Passing r s place rule rests dropped = absurd (cc)
+asks_stay S.Dropped r s place rule rests dropped = rests rule.whole
+
+rule_stays : (x : Sending) (r s : Request) (place : ℕ) → MayGoOn x r place → Rests r s → MayGoOn x s place
+rule_stays S.Head r s place rule rests = tt
+rule_stays S.Passing r s place rule rests = tt
+rule_stays S.Dropped r s place rule rests =
+    subst (λ (t : Request). GoesOnBehind t place) (sym (rests rule.whole)) rule
+
+responds_stay : (x : Sending) (lines : Lines) (a b : Bool) (start cut t u : List ℕ) → u ≡ t
+    → (x ≡ S.Dropped → b ≡ a) → RespondsBy x lines a start cut t → RespondsBy x lines b start cut u
+responds_stay S.Head lines a b start cut t u same asks (sent, at, shows) = (sent, same ∙ at, shows)
+responds_stay S.Passing lines a b start cut t u same asks (sent, at) = (sent, same ∙ at)
+responds_stay S.Dropped lines a b start cut t u same asks h =
+    subst (λ k. IsCut k start cut u) (sym (asks refl)) (subst (λ k. IsCut a start cut k) (sym same) h)
+
+module _ {C : Type 0} (look : C → Look) (tells : Bool) (s : Course C) (c : C) (r : Request) (reads : ℕ)
+    (failed waited : Bool) (more : List ℕ) (sound : IsSound look tells s)
+    (moves : MovesOn tells s.request r (look s.client) (look c) failed waited more) where
+  moved : MovesTo tells (given_before look s) s.request r (look s.client) (look c) failed waited more
+  moved = moves (given_before look s) sound.request
+
+  pub moved_sound : IsSound look tells (record s { client = c; request = r; reads = reads })
+  moved_sound = record {
+    request = moved.holds;
+    response = λ tell. responds_stay s.response.sending s.response.lines s.request.asks_head r.asks_head
+        (taken_before look s) (look s.cut.value).taken (look s.client).taken (look c).taken
+        (moved.moves.told tell).taken
+        (λ dropped. ap (λ (x : Request). x.asks_head)
+        (asks_stay s.response.sending s.request r s.place sound.rule moved.moves.rests dropped))
+        (sound.response tell);
+    rule = rule_stays s.response.sending s.request r s.place sound.rule moved.moves.rests;
+    begun = moved.moves.calls.before ∙ sound.begun;
+  }
+
+  pub moved_calls : Calls (span_look look s)
+      (span_look look (record s { client = c; request = r; reads = reads })) failed waited
+  moved_calls = record {
+    source = ap (since (given_before look s)) moved.moves.calls.source;
+    name = moved.moves.calls.name;
+    plan = refl;
+    carried = moved.moves.calls.carried;
+    uploaded = moved.moves.calls.uploaded;
+    before = refl;
+    faults = moved.moves.calls.faults;
+    waits = moved.moves.calls.waits;
+    agains = agains_none waited;
+  }
+
+  pub moved_told : tells ≡ true → GivesMore (span_look look s)
+      (span_look look (record s { client = c; request = r; reads = reads })) more
+  moved_told tell =
+      let g = moved.moves.told tell in
+      record {
+        before = g.before;
+        replaced = g.replaced;
+        moved = g.moved;
+        given = g.given;
+        taken = ap (written_by s.response.sending (taken_before look s) (look s.cut.value).taken) g.taken;
+      }
+
+pub reads_span : {C : Type 0} (look : C → Look) (tells : Bool) (s : Course C) (c : C) (r : Request) (reads : ℕ)
+    (answer : Got) (into : List ℕ) → IsSound look tells s
+    → Shows tells s.request r (look s.client) (look c) answer into → reads ≡ one_more s.reads
+    → Reads tells (span_look look s) (span_look look (record s { client = c; request = r; reads = reads }))
+    answer into
+reads_span look tells s c r reads answer into sound shows counted = record {
+  fills = shows.fills;
+  once = record { reads = counted; writes = refl };
+  calls = moved_calls look tells s c r reads (got_failed answer) (got_again answer)
+      (take (count_got answer) into) sound shows.moves;
+  sure = λ sure. absurd sure;
+  told = moved_told look tells s c r reads (got_failed answer) (got_again answer)
+      (take (count_got answer) into) sound shows.moves;
+  ends = shows.ends;
+}
+
+-- ---- a poll
+
+pub polls_span : {C : Type 0} (look : C → Look) (tells : Bool) (s : Course C) (c : C) (r : Request)
+    (failed waited : Bool) → IsSound look tells s
+    → MovesOn tells s.request r (look s.client) (look c) failed waited []
+    → PollsSpan tells (span_look look s) (span_look look (record s { client = c; request = r })) failed waited
+polls_span look tells s c r failed waited sound moves = record {
+  calls = moved_calls look tells s c r s.reads failed waited [] sound moves;
+  reads = refl;
+  writes = refl;
+  told = moved_told look tells s c r s.reads failed waited [] sound moves;
+}
+
+-- ---- a write
+
+module _ {C : Type 0} (look : C → Look) (tells may : Bool) (s : Course C) (c : C) (p : Response)
+    (k : Course C) (writes : ℕ) (answer : Put) (piece : List ℕ) (sound : IsSound look tells s)
+    (goes_on : may ≡ true → GoesOnBehind s.request s.place)
+    (w : WritesOn tells may s.request.asks_head s.response p (look s.cut.value) (look k.cut.value)
+    (look s.client) (look c) answer piece) where
+  abbrev written : Course C
+  written = record s { client = c; response = p; cut = k.cut; writes = writes }
+
+  rule_on : (x : Sending) → x ≡ p.sending → MayGoOn x s.request s.place
+  rule_on S.Head is = tt
+  rule_on S.Passing is = tt
+  rule_on S.Dropped is =
+      ⊎_elim
+      (λ (was : is_dropped s.response.sending ≡ true). rule_was s.response.sending was sound.rule)
+      (λ (so : may ≡ true). goes_on so)
+      (or_cases (is_dropped s.response.sending) may (w.drops (ap is_dropped (sym is))))
+    where
+      rule_was : (y : Sending) → is_dropped y ≡ true → MayGoOn y s.request s.place
+          → GoesOnBehind s.request s.place
+      rule_was S.Head was rule = absurd (cc)
+      rule_was S.Passing was rule = absurd (cc)
+      rule_was S.Dropped was rule = rule
+
+  pub written_sound : IsSound look tells written
+  written_sound = record {
+    request = request_stays tells (given_before look s) s.request (look s.client) (look c) w.leaves.given
+        w.leaves.left sound.request;
+    response = (w.on (taken_before look s) sound.response).holds;
+    rule = rule_on p.sending refl;
+    begun = w.leaves.before ∙ sound.begun;
+  }
+
+  lacks_span : (a : Put) → LeavesAll a s.response p (look s.cut.value) (look k.cut.value) (look s.client) (look c)
+      → writes ≡ writes_after a s.writes → Lacks a (span_look look s) (span_look look written)
+  lacks_span (P.Took n) all counted = tt
+  lacks_span P.Again all counted = tt
+  lacks_span P.Failed all counted = tt
+  lacks_span P.NoMemory (same_p, same_cut, same_l) counted =
+      λ i. record (request_through (given_before look s) s.request (same_l i)) {
+        taken = written_by (same_p i).sending (taken_before look s) (same_cut i).taken (same_l i).taken;
+        source = since (given_before look s) (same_l i).source;
+        reads = s.reads;
+        writes = counted i;
+        agains = None;
+        plan = None;
+        before = (
+          (look s.begun.value).before.0 ++ given_before look s,
+          (look s.begun.value).before.1 ++ taken_before look s,
+        );
+      }
+
+  pub writes_span : writes ≡ writes_after answer s.writes
+      → Writes tells (span_look look s) (span_look look written) answer piece
+  writes_span counted = record {
+    takes = w.takes;
+    once = record { reads = refl; writes = counted };
+    calls = record {
+      source = ap (since (given_before look s)) w.leaves.source;
+      name = w.leaves.name;
+      plan = refl;
+      carried = w.leaves.carried;
+      uploaded = w.leaves.uploaded;
+      before = refl;
+      faults = w.leaves.faults;
+      waits = w.leaves.waits;
+      agains = agains_none (put_again answer);
+    };
+    sure = λ sure. absurd sure;
+    lacks = lacks_span answer w.lacks counted;
+    told = λ tell. record {
+      taken = (w.on (taken_before look s) sound.response).written tell;
+      within = λ within. tt;
+      given = ap (λ g. since (given_before look s) (given_on s.request.held g)) (w.leaves.given tell);
+      left = request_left tells (given_before look s) s.request (look s.client) (look c) w.leaves.given
+          w.leaves.left sound.request tell;
+    };
+  }
+
+-- ---- the request at its end
+
+-- a front of bytes that begin with a head, as long as its request
+request_with : (all rest front behind : List ℕ) (h : grammar.RequestHead) (size : ℕ)
+    → BeginsWithRequest all h rest → end_of_request h ≡ E.Sized size → all ≡ front ++ behind
+    → length front ≡ length (print_request h) + size → IsRequestWith h front
+request_with all rest front behind h size begins ends is long =
+    let parts : front ≡ print_request h ++ drop (length (print_request h)) front =
+    front_was_there front behind (print_request h) rest (sym is ∙ begins.reads.1) (omega (arith, long)) in
+    record {
+      body = drop (length (print_request h)) front;
+      begins = record { reads = (begins.reads.0, parts); short = begins.short; few = begins.few };
+      ends = subst (λ e. IsBodyBy e (drop (length (print_request h)) front)) (sym ends)
+          (omega (arith, long, length-drop (length (print_request h)) front));
+    }
+
+whole_request : (all rest front behind : List ℕ) (h : grammar.RequestHead) (size : ℕ)
+    → BeginsWithRequest all h rest → end_of_request h ≡ E.Sized size → all ≡ front ++ behind
+    → length front ≡ length (print_request h) + size → IsRequest front
+whole_request all rest front behind h size begins ends is long =
+    record { head = h; whole = request_with all rest front behind h size begins ends is long }
+
+next_request : (x : Reading) (r : Request) (given left : List ℕ) → StandsBy x r given left
+    → IsNext (given ++ (r.held ++ left)) (given ++ left_by x (r.held ++ left))
+next_request R.Head r given left stands = inl refl
+next_request R.Open r given left stands = inl refl
+next_request (R.Known n) r given left k =
+    ⊎_elim
+    (λ (short : length rest < n). inl (ap (λ l. given ++ l) (take_all n rest (omega (arith, short)))))
+    (λ (long : n ≤ length rest). inr (
+      drop n rest,
+      ap (λ l. given ++ l) (sym (take-append-drop n rest)) ∙ sym (append_assoc given (take n rest) (drop n rest)),
+      whole_request ((given ++ r.held) ++ left) (k.rest ++ left) (given ++ take n rest) (drop n rest) k.head
+          k.size (begins_more (given ++ r.held) left k.head k.rest k.begins) k.ends
+          (append_assoc given r.held left ∙ ap (λ l. given ++ l) (sym (take-append-drop n rest))
+          ∙ sym (append_assoc given (take n rest) (drop n rest)))
+          (omega (arith, k.long, length-append given (take n rest), length-take-le n rest long)),
+    ))
+    (cases_lt (length rest) n)
+  where
+    rest : List ℕ
+    rest = r.held ++ left
+
+-- ---- the response at its end
+
+-- what the client took of it: what is kept of what was written, or all of it
+pub record IsTaken (x : Sending) (start cut taken : List ℕ) : Type 0 where
+  pub sent : List ℕ
+  pub is_sent : IsSent (is_dropped x) (written_by x start cut taken) sent
+  pub took : taken ≡ start ++ sent
+
+taken_by : (x : Sending) (lines : Lines) (asks : Bool) (start cut taken : List ℕ)
+    → RespondsBy x lines asks start cut taken → IsTaken x start cut taken
+taken_by S.Head lines asks start cut taken (sent, at, shows) =
+    record { sent = sent; is_sent = sym (since_is start sent taken at); took = at }
+taken_by S.Passing lines asks start cut taken (sent, at) =
+    record { sent = sent; is_sent = sym (since_is start sent taken at); took = at }
+taken_by S.Dropped lines asks start cut taken c = record {
+  sent = c.lines ++ c.behind;
+  is_sent = record {
+    told = c.told;
+    lines = c.lines;
+    are = c.are;
+    behind = c.behind;
+    response_is = λ i. since_is start c.lines cut c.cut_is i
+        ++ (close_line ++ since_is cut c.behind taken c.taken_is i);
+    kept_is = refl;
+  };
+  took = c.taken_is ∙ ap (λ t. t ++ c.behind) c.cut_is ∙ append_assoc start c.lines c.behind;
+}
+
+-- the rule holds where the line was dropped
+rule_dropped : (x : Sending) (r : Request) (place : ℕ) → is_dropped x ≡ true → MayGoOn x r place
+    → GoesOnBehind r place
+rule_dropped S.Head r place was rule = absurd (cc)
+rule_dropped S.Passing r place was rule = absurd (cc)
+rule_dropped S.Dropped r place was rule = rule
+
+dropped_is : (x : Sending) → is_dropped x ≡ true → x ≡ S.Dropped
+dropped_is S.Head was = absurd (cc)
+dropped_is S.Passing was = absurd (cc)
+dropped_is S.Dropped was = refl
+
+-- ---- the session
+
+module _ {C : Type 0} (look : C → Look) (tells : Bool) (s : Course C) (sound : IsSound look tells s)
+    (tell : tells ≡ true) where
+  pub placed : IsPlaced (given_before look s) s.request (look s.client)
+  placed = sound.request.link tell
+
+  given_now : (span_look look s).given ≡ placed.given
+  given_now = given_is (given_before look s) placed.given s.request.held (look s.client).given placed.placed
+
+  taken_now : IsTaken s.response.sending (taken_before look s) (look s.cut.value).taken (look s.client).taken
+  taken_now = taken_by s.response.sending s.response.lines s.request.asks_head (taken_before look s)
+      (look s.cut.value).taken (look s.client).taken (sound.response tell)
+
+  took_now : (look s.client).before.1 ++ (look s.client).taken
+      ≡ (span_look look s).before.1 ++ taken_now.sent
+  took_now =
+      (λ i. (sound.begun i).1 ++ taken_now.took i)
+      ∙ sym (append_assoc (look s.begun.value).before.1 (taken_before look s) taken_now.sent)
+
+  pub is_session : IsSession (span_look look s) (is_dropped s.response.sending) (look s.client)
+  is_session = record {
+    bytes = placed.given ++ (s.request.held ++ (look s.client).left);
+    gave =
+        (λ i. (sound.begun i).0 ++ (placed.placed i ++ (look s.client).left))
+        ∙ ap (λ l. (look s.begun.value).before.0 ++ l)
+        (append_assoc (given_before look s) (placed.given ++ s.request.held) (look s.client).left
+        ∙ ap (λ l. given_before look s ++ l) (append_assoc placed.given s.request.held (look s.client).left))
+        ∙ sym (append_assoc (look s.begun.value).before.0 (given_before look s)
+        (placed.given ++ (s.request.held ++ (look s.client).left)));
+    request = subst (λ g. IsNext (placed.given ++ (s.request.held ++ (look s.client).left))
+        (g ++ left_by s.request.reading (s.request.held ++ (look s.client).left))) (sym given_now)
+        (next_request s.request.reading s.request placed.given (look s.client).left placed.stands);
+    sent = taken_now.sent;
+    is_sent = taken_now.is_sent;
+    took = took_now;
+  }
+
+  -- ---- the next request
+
+  module _ (dropped : is_dropped s.response.sending ≡ true) where
+    known_whole : IsKnown 0 s.request placed.given
+    known_whole =
+        subst (λ x. StandsBy x s.request placed.given (look s.client).left)
+        (rule_dropped s.response.sending s.request s.place dropped sound.rule).whole placed.stands
+
+    request_whole : IsRequest placed.given
+    request_whole =
+        let k = known_whole in
+        whole_request (placed.given ++ s.request.held) k.rest placed.given s.request.held k.head k.size k.begins
+        k.ends refl (omega (arith, k.long))
+
+    cut_now : IsCut s.request.asks_head (taken_before look s) (look s.cut.value).taken (look s.client).taken
+    cut_now =
+        subst (λ x. RespondsBy x s.response.lines s.request.asks_head (taken_before look s)
+        (look s.cut.value).taken (look s.client).taken) (dropped_is s.response.sending dropped)
+        (sound.response tell)
+
+    pub may_continue : MayContinue (span_look look s) s.place
+    may_continue =
+        let k = known_whole in
+        let c = cut_now in
+        let rule = rule_dropped s.response.sending s.request s.place dropped sound.rule in
+        record {
+          head = k.head;
+          request = subst (IsRequestWith k.head) (sym given_now)
+              (request_with (placed.given ++ s.request.held) k.rest placed.given s.request.held k.head k.size
+              k.begins k.ends refl (omega (arith, k.long)));
+          persists_is = sym k.persists_is ∙ rule.persists_is;
+          within = rule.within;
+          told = c.told;
+          lines = c.lines;
+          are = c.are;
+          ends = ap (λ b. c.told || b) (sym k.asks_is) ∙ c.ends;
+          behind = c.behind;
+          response_is = ap (λ x. written_by x (taken_before look s) (look s.cut.value).taken
+              (look s.client).taken) (dropped_is s.response.sending dropped)
+              ∙ (λ i. since_is (taken_before look s) c.lines (look s.cut.value).taken c.cut_is i
+              ++ (close_line ++ since_is (look s.cut.value).taken c.behind (look s.client).taken c.taken_is i));
+        }
+
+    -- what came before the next request
+    pub before_next : take (length (look s.client).given - length s.request.held) (look s.client).given
+        ≡ given_before look s ++ placed.given
+    before_next =
+        rest_by_length (look s.client).given (given_before look s ++ placed.given) s.request.held
+        (placed.placed ∙ sym (append_assoc (given_before look s) placed.given s.request.held))
+
+    kept_now : IsKept (span_look look s).taken taken_now.sent
+    kept_now = subst (λ b. IsSent b (span_look look s).taken taken_now.sent) dropped taken_now.is_sent
+
+    pub goes_behind : (t : Course C) → t.client ≡ s.client → t.begun.value ≡ s.client
+        → t.surplus ≡ length s.request.held → t.request.held ≡ s.request.held → t.response ≡ fresh_response
+        → GoesBehind (span_look look s) (span_look look t)
+    goes_behind t client begun surplus held response =
+        let l : look t.begun.value ≡ look s.client = ap look begun in
+        let m : look t.client ≡ look s.client = ap look client in
+        let before : given_before look t ≡ given_before look s ++ placed.given =
+        (λ i. take (length (l i).given - surplus i) (l i).given) ∙ before_next in
+        record {
+          request = subst IsRequest (sym given_now) request_whole;
+          gave =
+              (λ i. (l i).before.0 ++ before i)
+              ∙ ap (λ (b : List ℕ × List ℕ). b.0 ++ (given_before look s ++ placed.given)) sound.begun
+              ∙ sym (append_assoc (look s.begun.value).before.0 (given_before look s) placed.given)
+              ∙ ap (λ g. (span_look look s).before.0 ++ g) (sym given_now);
+          sent = taken_now.sent;
+          is_sent = kept_now;
+          took = (λ i. (l i).before.1 ++ (l i).taken) ∙ took_now;
+          no_given = given_is (given_before look t) [] t.request.held (look t.client).given
+              (ap (λ (k : Look). k.given) m ∙ placed.placed
+              ∙ sym (append_assoc (given_before look s) placed.given s.request.held)
+              ∙ (λ i. sym before i ++ sym held i));
+          no_taken =
+              (λ i. written_by (response i).sending (l i).taken (look t.cut.value).taken (m i).taken)
+              ∙ since_is (look s.client).taken [] (look s.client).taken (sym (append-nil (look s.client).taken));
+          name = ap (λ (k : Look). k.name) m;
+        }
+
+-- ---- the spans that begin
+
+module _ {C : Type 0} (look : C → Look) (tells : Bool) (t : Course C) (client : C)
+    (client_is : t.client ≡ client) (begun_is : t.begun.value ≡ client)
+    (response_is : t.response ≡ fresh_response) where
+  fresh_responds : RespondsBy t.response.sending t.response.lines t.request.asks_head (taken_before look t)
+      (look t.cut.value).taken (look t.client).taken
+  fresh_responds =
+      subst (λ (p : Response). RespondsBy p.sending p.lines t.request.asks_head (taken_before look t)
+      (look t.cut.value).taken (look t.client).taken) (sym response_is) (
+        [],
+        ap (λ (k : C). (look k).taken) (client_is ∙ sym begun_is)
+            ∙ sym (append-nil (look t.begun.value).taken),
+        new_shows,
+      )
+
+  -- a span that begins is sound, where what came stands before what is held
+  begins_sound : HoldsHead t.request.reading t.request.held
+      → (tells ≡ true → (look client).given ≡ given_before look t ++ t.request.held)
+      → StandsBy t.request.reading t.request [] (look client).left
+      → ((before : List ℕ) → (look client).given ≡ before ++ t.request.held
+      → EndsEmpty t.request.reading (look client))
+      → IsSound look tells t
+  begins_sound head came stands empty = record {
+    request = record {
+      head = head;
+      link = λ tell. subst (λ (k : C). IsPlaced (given_before look t) t.request (look k)) (sym client_is)
+          (record {
+            given = [];
+            placed = came tell;
+            stands = stands;
+            empty = empty (given_before look t) (came tell);
+          });
+    };
+    response = λ tell. fresh_responds;
+    rule = subst (λ (p : Response). MayGoOn p.sending t.request t.place) (sym response_is) tt;
+    begun = ap (λ (k : C). (look k).before) (client_is ∙ sym begun_is);
+  }
+
+-- the first one
+module _ {C : Type 0} (look : C → Look) (tells : Bool) (t : Course C) (client : C)
+    (client_is : t.client ≡ client) (begun_is : t.begun.value ≡ client) (surplus_is : t.surplus ≡ 0)
+    (request_is : t.request ≡ fresh_request []) (response_is : t.response ≡ fresh_response) where
+  given_first : given_before look t ≡ (look client).given
+  given_first =
+      (λ i. take (length (look (begun_is i)).given - surplus_is i) (look (begun_is i)).given)
+      ∙ take_all (length (look client).given - 0) (look client).given (omega arith)
+
+  pub first_sound : IsSound look tells t
+  first_sound =
+      begins_sound look tells t client client_is begun_is response_is
+      (subst (λ (r : Request). HoldsHead r.reading r.held) (sym request_is) (lacks_none, omega arith))
+      (λ tell. sym (append-nil (look client).given)
+      ∙ (λ i. sym given_first i ++ (sym request_is i).held))
+      (subst (λ (r : Request). StandsBy r.reading r [] (look client).left) (sym request_is) refl)
+      (λ before at. subst (λ (r : Request). EndsEmpty r.reading (look client)) (sym request_is) tt)
+
+  pub first_new : t.place ≡ 1 → t.reads ≡ 0 → t.writes ≡ 0 → IsNew look client t
+  first_new place reads writes = record {
+    client_is = client_is;
+    request_is = request_is;
+    response_is = response_is;
+    place_is = place;
+    no_reads = reads;
+    no_writes = writes;
+    gave = λ i. (look (begun_is i)).before.0 ++ given_first i;
+    took = λ i. (look (begun_is i)).before.1 ++ (look (begun_is i)).taken;
+    no_given =
+        (λ i. since (given_first i) (given_on (request_is i).held (look (client_is i)).given))
+        ∙ given_is (look client).given [] [] (look client).given (sym (append-nil (look client).given));
+    no_taken =
+        (λ i. written_by (response_is i).sending (look (begun_is i)).taken (look t.cut.value).taken
+        (look (client_is i)).taken)
+        ∙ since_is (look client).taken [] (look client).taken (sym (append-nil (look client).taken));
+  }
+
+-- and one behind another
+pub next_sound : {C : Type 0} (look : C → Look) (tells : Bool) (s t : Course C) → IsSound look tells s
+    → t.client ≡ s.client → t.begun.value ≡ s.client → t.surplus ≡ length s.request.held
+    → Decides (fresh_request s.request.held) t.request t.request.reading → t.response ≡ fresh_response
+    → IsSound look tells t
+next_sound look tells s t sound client begun surplus decides response =
+    let d = decided (fresh_request s.request.held) t.request (look s.client) decides in
+    begins_sound look tells t s.client client begun response d.head
+    (λ tell.
+    let p = sound.request.link tell in
+    let before : take (length (look s.client).given - length s.request.held) (look s.client).given
+    ≡ given_before look s ++ p.given =
+    rest_by_length (look s.client).given (given_before look s ++ p.given) s.request.held
+    (p.placed ∙ sym (append_assoc (given_before look s) p.given s.request.held)) in
+    p.placed ∙ sym (append_assoc (given_before look s) p.given s.request.held)
+    ∙ (λ i. sym before i ++ s.request.held)
+    ∙ (λ i. take (length (look (sym begun i)).given - sym surplus i) (look (sym begun i)).given
+    ++ sym d.held_is i))
+    d.stands d.empty
+
+-- of which nothing was given
+pub next_unread : (held : List ℕ) (r : Request) → Decides (fresh_request held) r r.reading → IsUnread r
+next_unread held r decides = by_reading r.reading refl decides
+  where
+    by_reading : (x : Reading) → r.reading ≡ x → Decides (fresh_request held) r x → IsUnread r
+    by_reading R.Head is d = inl (ap is_head is)
+    by_reading (R.Known n) is (f, size, found, ends, long, same) =
+        inr (subst (λ (q : Request). 0 < length q.held) (sym same)
+        (begins_some held found.head (drop f.used held) found.begins))
+    by_reading R.Open is (same, some, all) =
+        inr (subst (λ (q : Request). 0 < length q.held) (sym same) some)
+
+pub next_held : (held : List ℕ) (r : Request) → Decides (fresh_request held) r r.reading → r.held ≡ held
+next_held held r decides = by_reading r.reading decides
+  where
+    by_reading : (x : Reading) → Decides (fresh_request held) r x → r.held ≡ held
+    by_reading R.Head d = ap (λ (q : Request). q.held) d.0
+    by_reading (R.Known n) (f, size, found, ends, long, same) = ap (λ (q : Request). q.held) same
+    by_reading R.Open d = ap (λ (q : Request). q.held) d.0
+
+-- the session may carry one more request
+pub place_within : {C : Type 0} (look : C → Look) (tells : Bool) (s : Course C) → IsSound look tells s
+    → is_dropped s.response.sending ≡ true → s.place + 1 ≤ most_places
+place_within look tells s sound dropped =
+    let within = (rule_dropped s.response.sending s.request s.place dropped sound.rule).within in
+    omega (arith, within)

@@ -1,0 +1,12 @@
+pub mod Decisions
+pub mod Ends
+pub mod FoundHeads
+pub mod Giving
+pub mod HeldBytes
+pub mod LineFronts
+pub mod LinkCalls
+pub mod Members
+pub mod Parts
+pub mod Polling
+pub mod Sizes
+pub mod Writes

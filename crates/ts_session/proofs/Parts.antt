@@ -1,0 +1,53 @@
+-- What is seen of a request, by what stands before it and what is held.
+use Rattle.std.proofs.Common.{◌≡◌, ℕ, ◌≤◌, List, [], ◌++◌, length, take, drop, refl, sym, ap, ◌∙◌, arith}
+use Rattle.std.proofs.Common.{append_assoc, length-append}
+use Rattle.std.proofs.lemmas.List.{drop_at, length-take}
+use Rattle.ts_lists.proofs.Fronts.{rest_by_length}
+use Rattle.ts_session.specs.Course.{given_on, left_by, since}
+use Rattle.ts_session.specs.declared.request.Reading.{Reading}
+use Rattle.ts_session.specs.declared.request.Reading.TheVariants as R
+
+-- what stands behind a front is the rest
+pub since_is : (front rest bytes : List ℕ) → bytes ≡ front ++ rest → since front bytes ≡ rest
+since_is front rest bytes is = ap (drop (length front)) is ∙ drop_at front rest (length front) refl
+
+-- what was given on of the request, of all that came
+pub given_is : (before given held all : List ℕ) → all ≡ before ++ (given ++ held)
+    → since before (given_on held all) ≡ given
+given_is before given held all is =
+    since_is before given (given_on held all)
+    (rest_by_length all (before ++ given) held (is ∙ sym (append_assoc before given held)))
+
+-- no more may be given of it than is left
+pub left_short : (x : Reading) (rest : List ℕ) → length (left_by x rest) ≤ length rest
+left_short R.Head rest = omega arith
+left_short (R.Known n) rest = omega (arith, length-take n rest)
+left_short R.Open rest = omega arith
+
+-- what came stands behind what was held
+pub came_behind : (before given held came l m : List ℕ) → l ≡ before ++ (given ++ held) → m ≡ l ++ came
+    → m ≡ before ++ (given ++ (held ++ came))
+came_behind before given held came l m placed is =
+    is ∙ ap (λ x. x ++ came) placed ∙ append_assoc before (given ++ held) came
+    ∙ ap (λ x. before ++ x) (append_assoc given held came)
+
+-- a piece of what was held and came is given on
+pub given_more : (before given held came piece held' l m : List ℕ) → l ≡ before ++ (given ++ held)
+    → m ≡ l ++ came → held ++ came ≡ piece ++ held' → m ≡ before ++ ((given ++ piece) ++ held')
+given_more before given held came piece held' l m placed is moved =
+    came_behind before given held came l m placed is
+    ∙ ap (λ x. before ++ (given ++ x)) moved
+    ∙ ap (λ x. before ++ x) (sym (append_assoc given piece held'))
+
+-- and what was left begins with it
+pub left_more : (held came piece held' left left' : List ℕ) → left ≡ came ++ left'
+    → held ++ came ≡ piece ++ held' → held ++ left ≡ piece ++ (held' ++ left')
+left_more held came piece held' left left' is moved =
+    ap (λ x. held ++ x) is ∙ sym (append_assoc held came left') ∙ ap (λ x. x ++ left') moved
+    ∙ append_assoc piece held' left'
+
+-- the whole of it stays
+pub whole_more : (given held left piece held' left' : List ℕ) → held ++ left ≡ piece ++ (held' ++ left')
+    → given ++ (held ++ left) ≡ (given ++ piece) ++ (held' ++ left')
+whole_more given held left piece held' left' is =
+    ap (λ x. given ++ x) is ∙ sym (append_assoc given piece (held' ++ left'))

@@ -1,0 +1,21 @@
+-- What came stands behind what was held.
+use Rattle.std.proofs.Common.{◌≤◌, ◌-◌, ap, arith, length, ◌∙◌}
+use Rattle.std.proofs.Common.{◌+◌}
+use Rattle.std.specs.List.{slice_range}
+use Rattle.ts_session.proofs.HeldBytes.{slice_more}
+use Rattle.ts_session.proofs.held.Held.fill.Goals as goal
+
+pub returns-clause-fills : goal.returns-clause-fills
+returns-clause-fills g c =
+    let x = c.self.inside in
+    let room = c.move_front.new.room.items in
+    let new = c.read_behind-got.new.room.items in
+    let reads = c.read_behind-got.ensures.reads in
+    let within : x.to - x.from ≤ length room = omega (arith, reads.long) in
+    rw (← c.self.view_is) (record {
+      into = reads.into;
+      reads = reads.reads;
+      held_is = ap (λ k. slice_range new 0 ((x.to - x.from) + k)) c.count_of.ensures
+          ∙ slice_more x.room.items room new reads.into x.from x.to _ within c.move_front.ensures.front
+          reads.room_is;
+    })

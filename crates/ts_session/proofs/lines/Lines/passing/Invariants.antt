@@ -1,0 +1,9 @@
+-- A place within the bytes is looked at.
+use Rattle.std.proofs.Common.{◌-◌, ◌≤◌, length}
+use Rattle.ts_session.proofs.lines.Lines.passing.Given as goal
+
+abbrev pub invariant-loop-at : goal.invariant-loop-at
+invariant-loop-at l = l.at ≤ length l.bytes
+
+abbrev pub decreases-loop-at : goal.decreases-loop-at
+decreases-loop-at l = length l.bytes - l.at

@@ -1,0 +1,20 @@
+-- What was found of the held bytes decides.
+use Rattle.std.proofs.Common.{◌≡◌, ◌<◌, length, refl, subst, sym}
+use Rattle.ts_wire.specs.Heads.{LacksRequest}
+use Rattle.ts_wire.specs.Limits.{head_limit}
+use Rattle.ts_session.specs.Finding.{Decides, NeverRequest}
+use Rattle.ts_session.proofs.Decisions.{decides_never}
+use Rattle.ts_session.proofs.request.Request.decide.Goals as goal
+
+pub returns-in-More : goal.returns-in-More
+returns-in-More c =
+    let now = c.args.self.now in
+    subst (λ x. Decides now now x) (sym c.requires) (
+      refl,
+      subst LacksRequest c.bytes.ensures.value c.in-More.ensures.0,
+      subst (λ b. length b < head_limit) c.bytes.ensures.value c.in-More.ensures.1,
+    )
+
+pub returns-in-Never : goal.returns-in-Never
+returns-in-Never c =
+    decides_never c.args.self.now (subst NeverRequest c.bytes.ensures.value c.in-Never.ensures)

@@ -1,0 +1,206 @@
+-- What is seen of a span, the link that shows one request of a client and then its end.
+use Rattle.std.specs.Prelude.{◌≡◌, ℕ, ◌+◌, ◌-◌, ◌<◌, ◌⊎◌, List, [], ◌∷◌, ◌++◌, length, take, drop, Bool, true, false, None, ⊤, refl}
+use Rattle.std.proofs.Common.{◌∙◌}
+use Rattle.httparse.specs.Grammar as grammar
+use Rattle.httparse.specs.Grammar.{print_request}
+use Rattle.ts_link.specs.Link.{Look}
+use Rattle.ts_wire.specs.Heads.{BeginsWithRequest, LacksRequest}
+use Rattle.ts_wire.specs.Limits.{head_limit}
+use Rattle.ts_wire.specs.RequestEnds.{end_of_request}
+use Rattle.ts_wire.specs.declared.ends.RequestEnd.TheVariants as E
+use Rattle.ts_session.specs.Kept.{close_line}
+use Rattle.ts_session.specs.Limits.{most_places}
+use Rattle.ts_session.specs.Lines.{IsCut, ShowsHead, new_lines}
+use Rattle.ts_session.specs.Requests.{GivesAll, asks_head, persists}
+use Rattle.ts_session.specs.declared.course.Course.{Course}
+use Rattle.ts_session.specs.declared.lines.Lines.{Lines}
+use Rattle.ts_session.specs.declared.request.Reading.{Reading}
+use Rattle.ts_session.specs.declared.request.Reading.TheVariants as R
+use Rattle.ts_session.specs.declared.request.Request.{Request}
+use Rattle.ts_session.specs.declared.response.Response.{Response}
+use Rattle.ts_session.specs.declared.response.Sending.{Sending}
+use Rattle.ts_session.specs.declared.response.Sending.TheVariants as S
+
+-- what stands in a list behind a front of it
+abbrev pub since : List ℕ → List ℕ → List ℕ
+since front bytes = drop (length front) bytes
+
+-- ---- the request
+
+-- what may still be given of it, of all that the client has left
+abbrev pub left_by : Reading → List ℕ → List ℕ
+left_by R.Head rest = rest
+left_by (R.Known n) rest = take n rest
+left_by R.Open rest = rest
+
+-- what was given on of what the client gave, where these last bytes of it are held
+abbrev pub given_on : List ℕ → List ℕ → List ℕ
+given_on held given = take (length given - length held) given
+
+-- a client that is seen so, where this stands before the request: what is shown of the request
+abbrev pub request_through : List ℕ → Request → Look → Look
+request_through before r l = record l {
+  given = since before (given_on r.held l.given);
+  left = left_by r.reading (r.held ++ l.left);
+}
+
+-- the head is still read
+abbrev pub is_head : Reading → Bool
+is_head R.Head = true
+is_head _ = false
+
+-- a request of which nothing is known, where these bytes are held
+abbrev pub fresh_request : List ℕ → Request
+fresh_request held = record { held = held; reading = R.Head; persists = false; asks_head = false }
+
+-- where the request ends is known, and so many bytes of it are still to be given
+pub record IsKnown (n : ℕ) (r : Request) (given : List ℕ) : Type 0 where
+  pub head : grammar.RequestHead
+  pub rest : List ℕ
+  pub begins : BeginsWithRequest (given ++ r.held) head rest
+  pub size : ℕ
+  pub ends : end_of_request head ≡ E.Sized size
+  pub long : length given + n ≡ length (print_request head) + size
+  pub persists_is : r.persists ≡ persists head
+  pub asks_is : r.asks_head ≡ asks_head head
+
+-- what holds of what was given and of what the client has left, by how far the request is
+abbrev pub StandsBy : Reading → Request → List ℕ → List ℕ → Type 0
+StandsBy R.Head r given left = given ≡ []
+StandsBy (R.Known n) r given left = IsKnown n r given
+StandsBy R.Open r given left = GivesAll (given ++ (r.held ++ left))
+
+-- where nothing came of the client and all that it has left is given, it has nothing left
+abbrev pub EndsEmpty : Reading → Look → Type 0
+EndsEmpty R.Head l = ⊤
+EndsEmpty (R.Known n) l = ⊤
+EndsEmpty R.Open l = l.given ≡ [] → l.left ≡ []
+
+-- before the request stands what came before, then what was given of it, and last what is held
+pub record IsPlaced (before : List ℕ) (r : Request) (l : Look) : Type 0 where
+  pub given : List ℕ
+  pub placed : l.given ≡ before ++ (given ++ r.held)
+  pub stands : StandsBy r.reading r given l.left
+  pub empty : EndsEmpty r.reading l
+
+-- no head is whole in what is held, and there is room for more of one
+abbrev pub HoldsHead : Reading → List ℕ → Type 0
+HoldsHead R.Head held = LacksRequest held × (length held < head_limit)
+HoldsHead _ held = ⊤
+
+-- WHAT HOLDS of the request
+pub record HoldsRequest (tells : Bool) (before : List ℕ) (r : Request) (l : Look) : Type 0 where
+  pub head : HoldsHead r.reading r.held
+  pub link : tells ≡ true → IsPlaced before r l
+
+-- ---- the response
+
+-- What was written, by what the client took since the request began and since the line was dropped: where
+-- `connection: close` was dropped, the client did not take it.
+abbrev pub written_by : Sending → List ℕ → List ℕ → List ℕ → List ℕ
+written_by S.Dropped start cut taken = since start cut ++ (close_line ++ since cut taken)
+written_by _ start cut taken = since start taken
+
+-- the line was dropped
+abbrev pub is_dropped : Sending → Bool
+is_dropped S.Dropped = true
+is_dropped _ = false
+
+-- its head has been written, or its line was dropped
+abbrev pub IsRest : Sending → Type 0
+IsRest S.Head = ⊥
+IsRest _ = ⊤
+
+-- nothing of it was written
+abbrev pub fresh_response : Response
+fresh_response = record { sending = S.Head; lines = new_lines }
+
+-- how the response stands, where it is known what was sent of it before the line was dropped, or so far
+abbrev pub RespondsBy : Sending → Lines → Bool → List ℕ → List ℕ → List ℕ → Type 0
+RespondsBy S.Head lines asks start cut taken =
+    (sent : List ℕ) × (taken ≡ start ++ sent) × ShowsHead sent lines
+RespondsBy S.Passing lines asks start cut taken = (sent : List ℕ) × (taken ≡ start ++ sent)
+RespondsBy S.Dropped lines asks start cut taken = IsCut asks start cut taken
+
+-- WHAT HOLDS of the response
+abbrev pub HoldsResponse : Bool → Bool → List ℕ → List ℕ → Response → Look → Type 0
+HoldsResponse tells asks start cut p l =
+    tells ≡ true → RespondsBy p.sending p.lines asks start cut l.taken
+
+-- the request was given whole, its client lets the connection go on, and the session may carry more requests
+pub record GoesOnBehind (r : Request) (place : ℕ) : Type 0 where
+  pub whole : r.reading ≡ R.Known 0
+  pub persists_is : r.persists ≡ true
+  pub within : place < most_places
+
+-- so it is where the line was dropped
+abbrev pub MayGoOn : Sending → Request → ℕ → Type 0
+MayGoOn S.Dropped r place = GoesOnBehind r place
+MayGoOn _ r place = ⊤
+
+-- ---- the span
+
+module _ {C : Type 0} (look : C → Look) where
+  -- what the client gave before the request, and took before the response
+  abbrev pub given_before : Course C → List ℕ
+  given_before s =
+      take (length (look s.begun.value).given - s.surplus) (look s.begun.value).given
+
+  abbrev pub taken_before : Course C → List ℕ
+  taken_before s = (look s.begun.value).taken
+
+  -- WHAT IS SEEN of a span: of its request alone. Its calls are its own, so it tells no plan of them.
+  abbrev pub span_look : Course C → Look
+  span_look s = record (request_through (given_before s) s.request (look s.client)) {
+    taken = written_by s.response.sending (taken_before s) (look s.cut.value).taken (look s.client).taken;
+    source = since (given_before s) (look s.client).source;
+    reads = s.reads;
+    writes = s.writes;
+    agains = None;
+    plan = None;
+    before = (
+      (look s.begun.value).before.0 ++ given_before s,
+      (look s.begun.value).before.1 ++ taken_before s,
+    );
+  }
+
+  -- HOW A SPAN STANDS between two calls
+  pub record IsSound (tells : Bool) (s : Course C) : Type 0 where
+    pub request : HoldsRequest tells (given_before s) s.request (look s.client)
+    pub response : HoldsResponse tells s.request.asks_head (taken_before s) (look s.cut.value).taken
+        s.response (look s.client)
+    pub rule : MayGoOn s.response.sending s.request s.place
+    pub begun : (look s.client).before ≡ (look s.begun.value).before
+
+-- the second is the first after some calls of it as a link, or the same link
+pub record SpanGoes {C : Type 0} (goes : C → C → Type 0) (s t : Course C) : Type 0 where
+  pub client : goes s.client t.client
+  pub begun : t.begun.value ≡ s.begun.value
+  pub surplus : t.surplus ≡ s.surplus
+  pub place : t.place ≡ s.place
+
+module _ {C : Type 0} where
+  -- no call at all
+  pub span_same : (goes : C → C → Type 0) → ((c : C) → goes c c) → (s : Course C) → SpanGoes goes s s
+  span_same goes same s =
+      record { client = same s.client; begun = refl; surplus = refl; place = refl }
+
+  -- calls after calls
+  pub span_on : (goes : C → C → Type 0) → ((a b c : C) → goes a b → goes b c → goes a c)
+      → (s t u : Course C) → SpanGoes goes s t → SpanGoes goes t u → SpanGoes goes s u
+  span_on goes on s t u p q = record {
+    client = on s.client t.client u.client p.client q.client;
+    begun = q.begun ∙ p.begun;
+    surplus = q.surplus ∙ p.surplus;
+    place = q.place ∙ p.place;
+  }
+
+  -- calls of a link leave it the same link
+  pub span_still : (goes still : C → C → Type 0) → ((a b : C) → goes a b → still a b)
+      → (s t : Course C) → SpanGoes goes s t → SpanGoes still s t
+  span_still goes still weaker s t p = record {
+    client = weaker s.client t.client p.client;
+    begun = p.begun;
+    surplus = p.surplus;
+    place = p.place;
+  }

@@ -1,0 +1,10 @@
+pub mod Course
+pub mod Finding
+pub mod Held
+pub mod Kept
+pub mod Limits
+pub mod Lines
+pub mod Reading
+pub mod Requests
+pub mod Session
+pub mod Writing

@@ -1,0 +1,97 @@
+//! The request that a span shows, as far as it is known.
+ghost use Rattle.std.specs.Prelude.{◌≡◌, ◌≤◌, [], length, IfOk};
+ghost use Rattle.ts_session.specs.Course.{fresh_request, is_head};
+ghost use Rattle.ts_session.specs.Finding.{Decides, IsHeadFound};
+ghost use Rattle.ts_wire.specs.Limits.{head_limit};
+
+use crate::finding::{Found, FoundHead, find_request};
+use crate::held::Held;
+use std::alloc::Global;
+use ts_link::NoMemory;
+use ts_wire::RequestEnd;
+
+/// How far a request is.
+#[derive(Clone, Copy)]
+pub enum Reading {
+    /// Its head is still read, and nothing of it was given.
+    Head,
+    /// So many bytes of it are still to be given.
+    Known(u64),
+    /// All that the client gives belongs to it.
+    Open,
+}
+
+/// A request, and the bytes that the client gave and that were not given on.
+#[derive(Drop)]
+pub struct Request {
+    pub(crate) held: Held,
+    pub(crate) reading: Reading,
+    // Of a request of which it is known where it ends: whether its client lets the connection go on, and whether
+    // it asks for the head of an answer alone.
+    pub(crate) persists: bool,
+    pub(crate) asks_head: bool,
+}
+
+impl Request {
+    // A request of which nothing came. It takes all the memory that it ever needs.
+    pub(crate) fn make(alloc: Global) -> Result<Request, NoMemory>
+        ensures { IfOk result (λ r. r ≡ fresh_request []) }
+    {
+        let held = Held::make(alloc)?;
+        Ok(Request {
+            held,
+            reading: Reading::Head,
+            persists: false,
+            asks_head: false,
+        })
+    }
+
+    // The request that begins with these bytes, which are held. It takes no memory.
+    pub(crate) fn behind(held: Held) -> Request
+        ensures { Decides (fresh_request held) result result.reading }
+    {
+        let mut request = Request {
+            held,
+            reading: Reading::Head,
+            persists: false,
+            asks_head: false,
+        };
+        request.decide();
+        request
+    }
+
+    pub(crate) fn is_head(&self) -> bool
+        ensures { result ≡ is_head self.now.reading }
+    {
+        matches!(self.reading, Reading::Head)
+    }
+
+    // Its head is known.
+    fn begin(&mut self, found: FoundHead)
+        requires found { IsHeadFound self.old.held found }
+        requires fits { length self.old.held ≤ head_limit }
+        ensures { Decides self.old self.new self.new.reading }
+    {
+        match found.end {
+            RequestEnd::Sized(size) => {
+                self.reading = Reading::Known(found.used as u64 + size);
+                self.persists = found.persists;
+                self.asks_head = found.asks_head;
+            }
+            RequestEnd::Chunked => self.reading = Reading::Open,
+            RequestEnd::Unknown => self.reading = Reading::Open,
+        }
+    }
+
+    // Looks whether it is known by now where it ends.
+    pub(crate) fn decide(&mut self)
+        requires { self.old.reading ≡ Reading.Head }
+        ensures { Decides self.old self.new self.new.reading }
+    {
+        match find_request(self.held.bytes()) {
+            Found::More => {}
+            Found::Never => self.reading = Reading::Open,
+            Found::Head(found) => self.begin(found),
+        }
+    }
+}

@@ -1,0 +1,256 @@
+//! A link that shows one request of a client, and then its end.
+ghost use Rattle.std.specs.Prelude.{◌≡◌, ◌+◌, ◌<◌, ◌≤◌, length, true, IfOk};
+ghost use Rattle.ts_link.specs.Counts.{one_more};
+ghost use Rattle.ts_link.specs.Link.{Reads, Writes};
+ghost use Rattle.ts_link.specs.LinkAnswers.{writes_after};
+ghost use Rattle.ts_session.specs.Course.{GoesOnBehind, IsSound, SpanGoes, is_dropped, span_look};
+ghost use Rattle.ts_session.specs.Course.{span_on, span_same, span_still};
+ghost use Rattle.ts_session.specs.Limits.{most_places};
+ghost use Rattle.ts_session.specs.Reading.{IsUnread, PollsHeld, StaysUnread, poll_again, poll_failed};
+ghost use Rattle.ts_session.specs.Session.{GoesBehind, IsNew, IsSession, MayContinue, PollsSpan};
+
+use crate::course::{Course, MOST_PLACES, Polled};
+use crate::reading::{poll_request, read_request};
+use crate::request::{Reading, Request};
+use crate::response::Response;
+use crate::writing::write_response;
+use std::alloc::Global;
+use std::marker::Model;
+use std::snapshot::Snapshot;
+use ts_link::{Got, Link, NoMemory, Put};
+
+/// A client's link that shows one request of its connection, the body included, and then the end. Of what is
+/// written to it the client does not take the line `connection: close` where the connection may go on.
+#[derive(Drop)]
+pub struct Span<C: Link> {
+    course: Course<C>,
+}
+
+impl<C: Link> Model for Span<C> {
+    ghost use Rattle.ts_session.specs.declared.course.Course.{Course};
+    ghost use Rattle.ts_session.specs.Course.{IsSound};
+
+    ghost Value = { Course C };
+
+    ghost view = { λ s. s.course };
+
+    ghost invariant = { λ s. IsSound C.look C.tells s.course };
+}
+
+impl<C: Link + Drop> Span<C> {
+    /// The span of a client's first request. It takes all the memory that it and the spans behind it ever need:
+    /// the room of a head of 16,384 bytes.
+    pub fn make(alloc: Global, client: C) -> Result<Span<C>, NoMemory>
+        ensures { IfOk result (λ s. IsNew C.look client s) }
+    {
+        let request = Request::make(alloc)?;
+        let begun = Snapshot::of(&client);
+        let cut = Snapshot::of(&client);
+        let response = Response::new();
+        let course = Course {
+            client,
+            begun,
+            surplus: 0,
+            cut,
+            request,
+            response,
+            place: 1,
+            reads: 0,
+            writes: 0,
+        };
+        Ok(Span { course })
+    }
+
+    /// Looks for the request, of which nothing was given: reads the client once at most, where no byte of it is
+    /// held. `Some` where one is held then. It takes no memory.
+    pub fn poll(&mut self) -> Polled
+        requires unread { IsUnread self.old.request }
+        ensures holds { PollsHeld C.tells result self.new.request (C.look self.new.client) }
+        ensures shows { PollsSpan C.tells (span_look C.look self.old) (span_look C.look self.new)
+            (poll_failed result) (poll_again result) }
+        ensures unread { StaysUnread result self.new.request }
+        ensures goes { SpanGoes C.goes self.old self.new }
+    {
+        poll_course(&mut self.course)
+    }
+
+    /// Whether the connection may go on behind this request: its line `connection: close` was dropped.
+    pub fn may_continue(&self) -> bool
+        ensures dropped { result ≡ is_dropped self.now.response.sending }
+        ensures rule { C.tells ≡ true → result ≡ true
+            → MayContinue (span_look C.look self.now) self.now.place }
+    {
+        self.course.response.is_dropped()
+    }
+
+    /// The span of the next request, which begins where this one ended. It takes no memory.
+    pub fn next(self) -> Span<C>
+        requires { is_dropped self.response.sending ≡ true }
+        ensures behind { C.tells ≡ true → GoesBehind (span_look C.look self) (span_look C.look result) }
+        ensures client { result.client ≡ self.client }
+        ensures place { result.place ≡ self.place + 1 }
+        ensures within { result.place ≤ most_places }
+        ensures unread { IsUnread result.request }
+    {
+        let Span { course } = self;
+        Span {
+            course: next_course(course),
+        }
+    }
+
+    /// The client inside. It gave what came before the request, then the request, and took what came before the
+    /// response, then the response without the line that was dropped.
+    pub fn into_client(self) -> C
+        ensures client { result ≡ self.client }
+        ensures session { C.tells ≡ true → IsSession (span_look C.look self)
+            (is_dropped self.response.sending) (C.look result) }
+    {
+        let Span { course } = self;
+        let Course { client, .. } = course;
+        client
+    }
+}
+
+// Polls for the request.
+fn poll_course<C: Link>(course: &mut Course<C>) -> Polled
+    requires sound { IsSound C.look C.tells course.old }
+    requires unread { IsUnread course.old.request }
+    ensures holds { PollsHeld C.tells result course.new.request (C.look course.new.client) }
+    ensures shows { PollsSpan C.tells (span_look C.look course.old) (span_look C.look course.new)
+        (poll_failed result) (poll_again result) }
+    ensures unread { StaysUnread result course.new.request }
+    ensures goes { SpanGoes C.goes course.old course.new }
+    ensures sound { IsSound C.look C.tells course.new }
+{
+    poll_request(&mut course.client, &mut course.request)
+}
+
+// A count of calls with one more.
+fn counted(calls: u64) -> u64
+    ensures { result ≡ one_more calls }
+{
+    calls.saturating_add(1)
+}
+
+// Reads some of the request.
+fn read_course<C: Link>(course: &mut Course<C>, into: &mut [u8]) -> Got
+    requires room { 0 < length into.old }
+    requires sound { IsSound C.look C.tells course.old }
+    ensures reads { Reads C.tells (span_look C.look course.old) (span_look C.look course.new) result into.new }
+    ensures goes { SpanGoes C.goes course.old course.new }
+    ensures sound { IsSound C.look C.tells course.new }
+{
+    let reads = counted(course.reads);
+    let got = read_request(&mut course.client, &mut course.request, into);
+    course.reads = reads;
+    got
+}
+
+// Whether the line `connection: close` may be dropped, if its head tells where the response ends: the request was
+// given whole, its client lets the connection go on, and the session may carry more requests.
+fn may_go_on(request: &Request, place: u32) -> bool
+    ensures { result ≡ true → GoesOnBehind request.now place }
+{
+    match request.reading {
+        Reading::Known(0) => request.persists && place < MOST_PLACES,
+        _ => false,
+    }
+}
+
+// The number of writes behind one with this answer.
+fn writes_after(put: Put, writes: u64) -> u64
+    ensures { result ≡ writes_after put writes }
+{
+    match put {
+        Put::NoMemory => writes,
+        _ => counted(writes),
+    }
+}
+
+// Writes some of the response.
+fn write_course<C: Link>(course: &mut Course<C>, piece: &[u8]) -> Put
+    requires some { 0 < length piece.now }
+    requires sound { IsSound C.look C.tells course.old }
+    ensures writes { Writes C.tells (span_look C.look course.old) (span_look C.look course.new)
+        result piece.now }
+    ensures goes { SpanGoes C.goes course.old course.new }
+    ensures sound { IsSound C.look C.tells course.new }
+{
+    let may = may_go_on(&course.request, course.place);
+    let put = write_response(
+        &mut course.client,
+        &mut course.response,
+        &mut course.cut,
+        may,
+        course.request.asks_head,
+        piece,
+    );
+    let writes = writes_after(put, course.writes);
+    course.writes = writes;
+    put
+}
+
+// The course of the next request.
+fn next_course<C: Link>(course: Course<C>) -> Course<C>
+    requires sound { IsSound C.look C.tells course }
+    requires dropped { is_dropped course.response.sending ≡ true }
+    ensures behind { C.tells ≡ true → GoesBehind (span_look C.look course) (span_look C.look result) }
+    ensures client { result.client ≡ course.client }
+    ensures place { result.place ≡ course.place + 1 }
+    ensures within { result.place ≤ most_places }
+    ensures unread { IsUnread result.request }
+    ensures sound { IsSound C.look C.tells result }
+{
+    let Course {
+        client,
+        request: Request { held, .. },
+        place,
+        ..
+    } = course;
+    let begun = Snapshot::of(&client);
+    let cut = Snapshot::of(&client);
+    let surplus = held.len();
+    let request = Request::behind(held);
+    let response = Response::new();
+    Course {
+        client,
+        begun,
+        surplus,
+        cut,
+        request,
+        response,
+        place: place + 1,
+        reads: 0,
+        writes: 0,
+    }
+}
+
+impl<C: Link> Link for Span<C> {
+    ghost tells = { C.tells };
+
+    ghost look = { span_look C.look };
+
+    ghost goes = { SpanGoes C.goes };
+
+    ghost still = { SpanGoes C.still };
+
+    fn read(&mut self, into: &mut [u8]) -> Got {
+        read_course(&mut self.course, into)
+    }
+
+    fn write(&mut self, piece: &[u8]) -> Put {
+        write_course(&mut self.course, piece)
+    }
+
+    fn faults(&self) -> u64 {
+        self.course.client.faults()
+    }
+
+    ghost stays = { λ s. span_same C.goes C.stays s };
+
+    ghost goes_on = { λ s t u g h. span_on C.goes C.goes_on s t u g h };
+
+    ghost goes_still = { λ s t g. span_still C.goes C.still C.goes_still s t g };
+
+    ghost still_on = { λ s t u g h. span_on C.still C.still_on s t u g h };
+}
