@@ -13,3 +13,6 @@ mod NowStarted
 mod Cleared
 mod LookedAt
 mod Tried
+mod Asked
+mod Later
+mod Settled

@@ -12,4 +12,5 @@ pub mod Leftover
 pub mod Served
 pub mod Exchanges
 pub mod Starting
+pub mod Ready
 pub mod Limits

@@ -1,5 +1,6 @@
 -- How a handler that has ended is taken out of its place, and why one was not.
-use Rattle.std.specs.Prelude.{◌≡◌, ◌⊎◌, ℕ, ◌<◌, List, Bool, true, Option, Some, None, get_or, set}
+use Rattle.std.specs.Prelude.{◌≡◌, ◌⊎◌, ℕ, ◌<◌, All, List, Bool, true, Option, Some, None, get_or, length}
+use Rattle.std.specs.Prelude.{set}
 use mathlib.Core.Option.{some}
 use lib.ListN.{get_elem?}
 use Rattle.ts_journal.specs.State.{State}
@@ -9,8 +10,9 @@ use Rattle.ts_group.specs.declared.group.Group.{Group}
 use Rattle.ts_slot.specs.declared.view.SeatView.{SeatView}
 use Rattle.ts_slot.specs.Lists.{Each}
 use Rattle.ts_thread.specs.Entering.{FindsHeld}
+use Rattle.ts_thread.specs.Goings.{IsIdle}
 use Rattle.ts_thread.specs.Seats.{KnowsTurn}
-use Rattle.ts_serve.specs.Tenants.{HoldsEnded, IsEmptyGroup}
+use Rattle.ts_serve.specs.Tenants.{HoldsEnded, HoldsRunning, IsEmptyGroup}
 use Rattle.ts_serve.specs.declared.acceptor.TheConstants.{PLACES}
 use Rattle.ts_serve.specs.declared.connection.Connection.{Connection}
 use Rattle.ts_serve.specs.declared.connection.Connection.TheVariants.{Accepted, Free}
@@ -65,14 +67,24 @@ module _ {W P Q R T U : Type 0} (Sound : W → State → List Named → Type 0) 
       (number : ℕ) (has_origin : Bool) → get_or row k Free ≡ Accepted number has_origin true
       → (row' ≡ set row k Free) ⊎ IsLeftThere number has_origin k old new
 
-  -- whoever is in the row for the place k, and whose handler has ended in this group, goes out of the row
+module _ {W P Q R T U : Type 0} (number_of : W → ℕ) (holds_origin is_ended : W → Bool) where
+  -- whoever is in the row for the place k goes out of the row, or its handler lives in this group and has not
+  -- ended
   abbrev pub IsCleared : ℕ → Group (Either (Place W) P) Q R T U → List Connection → List Connection → Type 0
   IsCleared k g row row' =
       (number : ℕ) (has_origin started : Bool) → get_or row k Free ≡ Accepted number has_origin started
-      → HasEndedAt number has_origin g → get_or row' k Free ≡ Free
+      → (get_or row' k Free ≡ Free) ⊎ HoldsRunning number_of holds_origin is_ended number has_origin g.world
 
   -- the same of each place and its group, which stand in their order
   abbrev pub AreCleared : List (Group (Either (Place W) P) Q R T U) → List Connection → List Connection → Type 0
   AreCleared groups row row' =
       (k : ℕ) (g : Group (Either (Place W) P) Q R T U) → k < PLACES → get_elem? groups k ≡ some g
       → IsCleared k g row row'
+
+  -- A server of these tags was closed: once nothing was pending these were its groups, one for each tag, and
+  -- its places are cleared.
+  pub record IsClosedOver {G : Type 0} (tags : List G) (groups : List (Group (Either (Place W) P) Q R T U))
+      (row row' : List Connection) : Type 0 where
+    pub count : length groups ≡ length tags
+    pub idle : All IsIdle groups
+    pub cleared : AreCleared groups row row'

@@ -102,6 +102,15 @@ pub record HoldsEnded {W P : Type 0} (Sound : W → State → List Named → Typ
   pub number_is : number_of handler ≡ number
   pub origin_is : holds_origin handler ≡ has_origin
 
+-- In a place lives the handler of this number, with an origin or without one, which has not ended.
+pub record HoldsRunning {W P : Type 0} (number_of : W → ℕ) (holds_origin is_ended : W → Bool) (number : ℕ)
+    (has_origin : Bool) (world : Either (Place W) P) : Type 0 where
+  pub handler : W
+  pub lives : world ≡ One (Tenant handler)
+  pub lasts : is_ended handler ≡ false
+  pub number_is : number_of handler ≡ number
+  pub origin_is : holds_origin handler ≡ has_origin
+
 -- The net was handed what is left of the client of this number, with an origin or without one, and of it
 -- holds what holds of one that is done.
 pub record HandsOver {C O : Type 0} (tells : Bool) (Done : Retired C O → Type 0) (number : ℕ)

@@ -11,7 +11,7 @@ ghost use Rattle.ts_serve.specs.Tenants.{FitPlaces, FitsTerms};
 use crate::acceptor::PLACES;
 use crate::connection::Connection;
 use crate::place::PlaceGroup;
-use crate::retire::{hand_over, has_ended};
+use crate::retire::{hand_over, has_ended, is_running};
 use crate::source::ClientSource;
 use crate::tenant::Handler;
 use std::collections::VecDeque;
@@ -20,6 +20,7 @@ use ts_link::NoMemory;
 
 /// Hands what is left of the client in the place k to the net, if its handler has ended, and the place is free
 /// then. The group is that of the place. At want of memory, or where the handler has not ended, it is dropped.
+/// (That another than its handler lives there does not come, and is answered as want of memory.)
 pub fn clear_place<
     N: ClientSource,
     W: Handler<N::Client, N::Origin> + Drop,
@@ -33,7 +34,7 @@ pub fn clear_place<
     ensures no_more { HasNoMore row.old.items (N.seen net.old) → HasNoMore row.new.items (N.seen net.new) }
     ensures net { IsNotAsked (N.seen net.old) (N.seen net.new) }
     ensures others { OthersStay k row.old.items row.new.items }
-    ensures cleared { OnOk result (IsCleared W.sound W.number_of W.holds_origin W.is_ended k group
+    ensures cleared { OnOk result (IsCleared W.number_of W.holds_origin W.is_ended k group
         row.old.items row.new.items) }
     ensures all { OnOk result (HasAll row.old.items (N.seen net.old) → HasAll row.new.items (N.seen net.new)) }
 {
@@ -48,6 +49,10 @@ pub fn clear_place<
     if has_ended(&group, number, has_origin) {
         hand_over(net, number, has_origin, group)?;
         row[k as usize] = Connection::Free;
+        return Ok(());
+    }
+    if !is_running(&group, number, has_origin) {
+        return Err(NoMemory);
     }
     Ok(())
 }
@@ -67,7 +72,7 @@ pub fn clear_places<
         row.old.items (N.seen net.old) row.new.items (N.seen net.new) }
     ensures no_more { HasNoMore row.old.items (N.seen net.old) → HasNoMore row.new.items (N.seen net.new) }
     ensures net { IsNotAsked (N.seen net.old) (N.seen net.new) }
-    ensures cleared { OnOk result (AreCleared W.sound W.number_of W.holds_origin W.is_ended groups.items
+    ensures cleared { OnOk result (AreCleared W.number_of W.holds_origin W.is_ended groups.items
         row.old.items row.new.items) }
     ensures all { OnOk result (HasAll row.old.items (N.seen net.old) → HasAll row.new.items (N.seen net.new)) }
 {

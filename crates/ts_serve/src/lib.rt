@@ -11,6 +11,7 @@ mod exchanges;
 mod laws;
 mod leftover;
 mod place;
+mod ready;
 mod retire;
 mod rounds;
 mod run;

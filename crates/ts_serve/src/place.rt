@@ -11,7 +11,7 @@ ghost use Rattle.ts_serve.specs.Places.{PlaceAnswers, place_left, PlaceBegun, Pl
 ghost use Rattle.ts_serve.specs.Places.{sound_on, left_on};
 
 use crate::tenant::Tenant;
-use ts_group::{Asked, Cx, Either, Group, MOST_SET, Want, World};
+use ts_group::{Asked, Cx, Either, Group, MOST_SET, Rouse, Want, World};
 use ts_journal::{Event, Slotted};
 
 /// A place for worlds, one after the other.
@@ -129,4 +129,15 @@ impl<W: Tenant + Drop> World for Place<W> {
         (λ w. W.left_given w s turn) p };
 
     ghost rests = { λ terms p s roles fits holds. tt };
+}
+
+/// Whoever lives in it brings its events forward. In an empty place nothing is pending.
+#[tactic(auto, using(ts_group::proofs::Grows::grows_refl))]
+impl<W: Tenant + Drop> Rouse for Place<W> {
+    fn rouse(&mut self, cx: &mut Cx) {
+        match self {
+            Place::Empty => {}
+            Place::Tenant(tenant) => tenant.rouse(cx),
+        }
+    }
 }

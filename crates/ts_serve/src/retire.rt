@@ -9,7 +9,8 @@ ghost use Rattle.ts_serve.specs.Acceptor.{KeepsSome, LosesNobody};
 ghost use Rattle.ts_serve.specs.Balance.{HasAll, HasNoMore, IsBalanced};
 ghost use Rattle.ts_serve.specs.declared.acceptor.TheConstants.{PLACES};
 ghost use Rattle.ts_serve.specs.TakingOut.{IsLeftThere, IsLookedAt, IsTakenOut};
-ghost use Rattle.ts_serve.specs.Tenants.{FitsTerms, HandsJournal, HandsOver, HoldsEnded, IsPlace, IsPlaceOf};
+ghost use Rattle.ts_serve.specs.Tenants.{FitsTerms, HandsJournal, HandsOver, HoldsEnded, HoldsRunning};
+ghost use Rattle.ts_serve.specs.Tenants.{IsPlace, IsPlaceOf};
 
 use crate::accept::empty_group;
 use crate::acceptor::{Acceptor, PLACES};
@@ -42,7 +43,25 @@ pub fn has_ended<
     }
 }
 
-// The same of the group that a turn found, which stays as it is.
+/// Whether in a place lives the handler of this number, with an origin or without one, and has not ended.
+pub fn is_running<
+    C: Link,
+    O: Upstream<C>,
+    W: Handler<C, O> + Drop,
+    P: World<Question = W::Question, Reply = W::Reply> + Drop,
+>(group: &PlaceGroup<W, P>, number: u64, has_origin: bool) -> bool
+    ensures { (result ≡ true) ↔ HoldsRunning W.number_of W.holds_origin W.is_ended number has_origin
+        group.now.world }
+{
+    match group.world() {
+        Either::One(Place::Tenant(handler)) => {
+            !handler.has_ended() && handler.number() == number && handler.has_origin() == has_origin
+        }
+        _ => false,
+    }
+}
+
+// Whether the handler of this number has ended in the group that a turn found, which stays as it is.
 fn finds_ended<
     C: Link,
     O: Upstream<C>,

@@ -13,6 +13,7 @@ use crate::accept::accept_all;
 use crate::acceptor::{Acceptor, Listening};
 use crate::connection::Connection;
 use crate::place::PlaceGroup;
+use crate::ready::{LONGEST_PAUSE, Ready, ask_ready, rouse_ready};
 use crate::retire::{retire_all, retire_next};
 use crate::service::Service;
 use crate::source::ClientSource;
@@ -21,7 +22,7 @@ use crate::tenant::Handler;
 use crate::worker::PAUSE;
 use std::sync::Wait;
 use std::sync::atomic::Ordering;
-use ts_group::World;
+use ts_group::{Rouse, World};
 use ts_link::{Clock, Gate, NoMemory};
 use ts_thread::{Desk, Did, turn_desk};
 
@@ -116,12 +117,58 @@ fn take_round<
     Ok(!came)
 }
 
+// For how long nothing is to be done behind a round, in milliseconds, as far as is known: where nobody is
+// there, only a new client brings something.
+fn free_for(is_idle: bool, row: &[Connection]) -> u64 {
+    if !is_idle {
+        return 0;
+    }
+    if is_empty(row) {
+        return LONGEST_PAUSE;
+    }
+    PAUSE
+}
+
+// One round of the first thread, behind which the net is asked who is ready, and the handlers of these are
+// roused.
+fn go_round<
+    N: ClientSource,
+    W: Handler<N::Client, N::Origin> + Drop,
+    P: Rouse<Question = W::Question, Reply = W::Reply> + Drop,
+    G: Gate,
+    C: Clock,
+    R: Wait,
+>(
+    service: &Service<'_, PlaceGroup<W, P>, G, C, R>,
+    setting: &W::Setting,
+    net: &mut N,
+    desk: &mut Desk<PlaceGroup<W, P>>,
+    acceptor: &mut Acceptor,
+    ready: &mut Ready,
+) -> Result<(), NoMemory>
+    requires server { IsOpenServer W.is_setting W.are_terms setting.now (tags_of service.now.shared.slots.now) }
+    requires asks { CanAskInServer W.fits W.keeps W.may_ask W.right W.answers
+        P.fits P.only_asked P.may_ask P.right P.answers (tags_of service.now.shared.slots.now) }
+    requires here { IsDeskOf service.now.shared.slots.now service.now.shared.queue.now desk.old
+        × IsAcceptorOf acceptor.old (N.seen net.old) }
+    ensures { Serves N.tells W.is_done service.now.shared.slots.now service.now.shared.queue.now result
+        desk.old desk.new acceptor.old acceptor.new (N.seen net.old) (N.seen net.new) }
+{
+    let moment = service.clock.now();
+    let is_idle = take_round(service, setting, net, desk, acceptor, moment)?;
+    let most = free_for(is_idle, &acceptor.row);
+    ask_ready(net, ready, most, moment);
+    service.pause.store(ready.pause, Ordering::SeqCst);
+    let later = service.clock.now();
+    rouse_ready(&service.shared, desk, &acceptor.row, ready, later)
+}
+
 /// Serves the net until nobody more is accepted and what is left of each client was handed over. Where the flag
 /// is set before, another thread lacked memory.
 pub fn serve_rounds<
     N: ClientSource,
     W: Handler<N::Client, N::Origin> + Drop,
-    P: World<Question = W::Question, Reply = W::Reply> + Drop,
+    P: Rouse<Question = W::Question, Reply = W::Reply> + Drop,
     G: Gate,
     C: Clock,
     R: Wait,
@@ -141,6 +188,7 @@ pub fn serve_rounds<
         desk.old desk.new acceptor.old acceptor.new (N.seen net.old) (N.seen net.new) }
     ensures over { OnOk result (IsOver acceptor.new) }
 {
+    let mut ready = Ready::new(service.alloc);
     'rounds: for _ in service.shared.rt.forever() {
         if service.stop.load(Ordering::SeqCst) {
             return Err(NoMemory);
@@ -148,10 +196,7 @@ pub fn serve_rounds<
         if is_over(acceptor) {
             return Ok(());
         }
-        let moment = service.clock.now();
-        if take_round(service, setting, net, desk, acceptor, moment)? {
-            service.clock.pause(PAUSE);
-        }
+        go_round(service, setting, net, desk, acceptor, &mut ready)?;
     }
     unreachable!()
 }

@@ -10,12 +10,13 @@ use crate::acceptor::{Acceptor, Listening, Served};
 use crate::server::{Server, close_server, new_acceptor, open_server};
 use crate::service::{Host, Service};
 use crate::tenant::Handler;
+use crate::worker::PAUSE;
 use crate::workers::{Joined, run_event_threads};
 use std::sync::Wait;
-use std::sync::atomic::AtomicBool;
+use std::sync::atomic::{AtomicBool, AtomicU64};
 use std::thread::Threads;
 use ts_exchange::Tagged;
-use ts_group::World;
+use ts_group::Rouse;
 use ts_link::{Clock, Gate};
 use ts_thread::{MOST_THREADS, Shared};
 use ts_txn::Net;
@@ -41,7 +42,7 @@ fn served_by(acceptor: &Acceptor) -> Served
 pub fn serve<
     N: Net,
     W: Handler<N::Client, N::Origin> + Drop + Send,
-    P: World<Question = W::Question, Reply = W::Reply> + Drop + Send,
+    P: Rouse<Question = W::Question, Reply = W::Reply> + Drop + Send,
     G: Gate + Sync,
     C: Clock + Sync,
     R: Threads + Wait + Sync,
@@ -75,6 +76,7 @@ where
     };
     let Server { slots, queue, desk } = server;
     let stop = AtomicBool::new(false);
+    let pause = AtomicU64::new(PAUSE);
     let service = Service {
         shared: Shared {
             rt: host.rt,
@@ -85,6 +87,7 @@ where
         alloc: host.alloc,
         clock: host.clock,
         stop: &stop,
+        pause: &pause,
     };
     let joined = run_event_threads(&service, setting, threads, net, desk, acceptor);
     let Joined {
@@ -96,6 +99,6 @@ where
         return served_by(&acceptor);
     }
     let server = Server { slots, queue, desk };
-    close_server(host, net, server, &mut acceptor.row);
+    let _ = close_server(host, net, server, &mut acceptor.row);
     Served::NoMemory
 }

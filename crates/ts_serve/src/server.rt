@@ -1,7 +1,7 @@
 //! How a server is opened, with its slots, its queue, the first thread's desk and the acceptor, and closed where
 //! its threads ended early.
 
-ghost use Rattle.std.specs.Prelude.{◌≡◌, ◌+◌, ◌≤◌, ◌++◌, [], All, length, map, replicate, IfOk};
+ghost use Rattle.std.specs.Prelude.{◌≡◌, ◌+◌, ◌≤◌, ◌++◌, [], All, Ok, length, map, replicate, IfOk};
 ghost use Rattle.ts_group.specs.declared.either.EitherTag.TheVariants as EitherTag;
 ghost use Rattle.ts_slot.specs.Limits.{most_groups, whole_share};
 ghost use Rattle.ts_slot.specs.Words.{tags_of, view};
@@ -10,6 +10,7 @@ ghost use Rattle.ts_serve.specs.Acceptor.{HasPlacesOf, IsNotAsked, IsServerOf};
 ghost use Rattle.ts_serve.specs.Balance.{HasNoMore, KeepsBalance};
 ghost use Rattle.ts_serve.specs.Opening.{AreNewGroups, IsNewAcceptor, IsNewServer};
 ghost use Rattle.ts_serve.specs.Servers.{CanAskInServer, CanStandBeside, StandsBeside, server_tags};
+ghost use Rattle.ts_serve.specs.TakingOut.{IsClosedOver};
 
 use crate::accept::empty_group;
 use crate::acceptor::{Acceptor, Listening, PLACES};
@@ -21,13 +22,14 @@ use crate::service::Host;
 use crate::tenant::{Handler, Tenant};
 use std::alloc::Global;
 use std::collections::VecDeque;
+use std::snapshot::Snapshot;
 use std::sync::Wait;
 use ts_exchange::Tagged;
 use ts_group::{Either, EitherTag, Group, World};
 use ts_link::{Clock, Link, NoMemory};
 use ts_queue::EventQueue;
 use ts_slot::{Slots, Slotted};
-use ts_thread::Desk;
+use ts_thread::{Desk, Unfinished};
 use ts_txn::Net;
 use ts_upstream::Upstream;
 
@@ -146,9 +148,27 @@ where
     }
 }
 
+// What was found, where all events were handled and all places cleared.
+fn found_whole<T: Drop>(
+    found: T,
+    handled: Result<(), Unfinished>,
+    cleared: Result<(), NoMemory>,
+) -> Result<T, NoMemory>
+    ensures { IfOk result (λ whole. (whole ≡ found) × (handled ≡ Ok tt) × (cleared ≡ Ok tt)) }
+{
+    let Ok(()) = handled else {
+        return Err(NoMemory);
+    };
+    let Ok(()) = cleared else {
+        return Err(NoMemory);
+    };
+    Ok(found)
+}
+
 /// Closes a server that nobody else uses: what is pending in its groups is handled, and what is left of each
-/// client that is accepted and whose handler has ended is handed to the net. Where memory lacks for that, the
-/// rest is dropped.
+/// client that is accepted and whose handler has ended is handed to the net. Answers its groups as they were
+/// found then, for contracts alone, which takes no memory. Where memory lacked, or a group had no turn left,
+/// the rest is dropped.
 pub fn close_server<
     N: Net,
     W: Handler<N::Client, N::Origin> + Drop,
@@ -161,7 +181,7 @@ pub fn close_server<
     net: &mut N,
     server: Server<PlaceGroup<W, P>>,
     row: &mut Vec<Connection>,
-)
+) -> Result<Snapshot<Vec<PlaceGroup<W, P>>>, NoMemory>
 where
     W::Terms: Drop,
     P::Tag: Drop,
@@ -174,6 +194,8 @@ where
         row.old.items (N.seen net.old) row.new.items (N.seen net.new) }
     ensures no_more { HasNoMore row.old.items (N.seen net.old) → HasNoMore row.new.items (N.seen net.new) }
     ensures net { IsNotAsked (N.seen net.old) (N.seen net.new) }
+    ensures closed { IfOk result (λ found. IsClosedOver W.number_of W.holds_origin W.is_ended
+        (tags_of server.slots) found.value.items row.old.items row.new.items) }
 {
     let Server {
         slots,
@@ -182,8 +204,10 @@ where
     } = server;
     let (seat, _pass) = desk.into_parts();
     let Ok(mut groups) = slots.close(host.alloc, seat) else {
-        return;
+        return Err(NoMemory);
     };
-    let _ = finish_left(host.rt, host.clock, groups.as_mut_slice());
-    let _ = clear_places(net, row, groups);
+    let handled = finish_left(host.rt, host.clock, groups.as_mut_slice());
+    let found = Snapshot::of(&groups);
+    let cleared = clear_places(net, row, groups);
+    found_whole(found, handled, cleared)
 }

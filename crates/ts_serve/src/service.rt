@@ -1,7 +1,7 @@
 //! What a server runs on, and what its event threads share.
 
 use std::alloc::Global;
-use std::sync::atomic::AtomicBool;
+use std::sync::atomic::{AtomicBool, AtomicU64};
 use ts_slot::Slotted;
 use ts_thread::Shared;
 
@@ -15,11 +15,13 @@ pub struct Host<'a, G, C, R> {
 }
 
 /// What the event threads of a server share: the runtime, the slots, the queue and the gate, the memory, the
-/// clock, and the flag that tells them to stop.
+/// clock, the flag that tells them to stop, and for how long each pauses that has nothing to do.
 #[derive(Drop)]
 pub struct Service<'a, V: Slotted, G, C, R> {
     pub shared: Shared<'a, V, G, R>,
     pub alloc: Global,
     pub clock: &'a C,
     pub stop: &'a AtomicBool,
+    /// In milliseconds. The first thread says it.
+    pub pause: &'a AtomicU64,
 }

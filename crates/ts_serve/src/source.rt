@@ -1,7 +1,7 @@
 //! What the first thread asks of a net.
 
 ghost use Rattle.std.specs.Prelude.{◌≡◌, Bool, OnOk, OnErr};
-ghost use Rattle.ts_txn.specs.Net.{CountsRise, GivesClient, GivesNobody, GivesOrigin, IsHanded};
+ghost use Rattle.ts_txn.specs.Net.{AddsNames, CountsRise, GivesClient, GivesNobody, GivesOrigin, IsHanded};
 ghost use Rattle.ts_txn.specs.Net.{IsHandedNothing, NetSeen, raised_by_accept, raised_by_dial};
 
 use ts_link::{Link, NoMemory};
@@ -21,6 +21,12 @@ pub trait ClientSource {
 
     // How many clients it gave, what it was handed, and its counts.
     ghost seen: { Self → NetSeen Self.Client Self.Origin };
+
+    /// Waits at most so many milliseconds until a client or the origin of one may be ready, and adds the names
+    /// of clients of which one is. A name may be of nobody, and one that is ready may be missing.
+    fn wait(&mut self, most: u64, ready: &mut Vec<u64>)
+        ensures same { seen self.new ≡ seen self.old }
+        ensures adds { AddsNames ready.old.items ready.new.items };
 
     /// The next client, if one is there. The k-th client that it gives, counted from 1, has the name k.
     fn accept(&mut self) -> Accepted<Self::Client>
@@ -48,6 +54,10 @@ impl<N: Net> ClientSource for N {
     ghost tells = { N.tells };
 
     ghost seen = { N.seen };
+
+    fn wait(&mut self, most: u64, ready: &mut Vec<u64>) {
+        <N as Net>::wait(self, most, ready);
+    }
 
     fn accept(&mut self) -> Accepted<N::Client> {
         <N as Net>::accept(self)

@@ -8,14 +8,14 @@ ghost use Rattle.ts_serve.specs.Arrivals.{IsArrival};
 ghost use Rattle.ts_serve.specs.Tenants.{HasEndedIn, MayLive};
 
 use std::alloc::Global;
-use ts_group::World;
+use ts_group::Rouse;
 use ts_journal::Journal;
 use ts_link::{Link, NoMemory};
 use ts_txn::Retired;
 use ts_upstream::Upstream;
 
 /// A world that may stand in a place where others stood before it.
-pub trait Tenant: World {
+pub trait Tenant: Rouse {
     /// What a place promises of whoever lives in it.
     type Terms;
 
@@ -40,7 +40,7 @@ pub trait Handler<C: Link, O: Upstream<C>>: Tenant {
     /// The number of its client among all that came.
     ghost number_of: { Self → ℕ };
 
-    /// It holds an origin.
+    /// It holds an origin that was reached for its client.
     ghost holds_origin: { Self → Bool };
 
     /// It has ended.
@@ -73,7 +73,7 @@ pub trait Handler<C: Link, O: Upstream<C>>: Tenant {
     fn number(&self) -> u64
         ensures { result ≡ number_of self.now };
 
-    /// Whether it holds an origin.
+    /// Whether it holds an origin that was reached for its client.
     fn has_origin(&self) -> bool
         ensures { result ≡ holds_origin self.now };
 

@@ -1,13 +1,13 @@
 //! The event threads of a server: the first, which accepts clients, and those that work beside it, joined again
 //! once it is done.
 
-ghost use Rattle.std.specs.Prelude.{◌≡◌, ◌<◌, ◌≤◌, OnOk};
+ghost use Rattle.std.specs.Prelude.{◌≡◌, ◌<◌, ◌≤◌, true, Ok, OnOk};
 ghost use Rattle.ts_slot.specs.Words.{tags_of};
 ghost use Rattle.ts_thread.specs.declared.TheConstants.{MOST_THREADS};
 ghost use Rattle.ts_thread.specs.Desks.{IsDeskOf};
 ghost use Rattle.ts_serve.specs.Acceptor.{IsAcceptorOf, IsOpenServer, IsOver, Serves};
 ghost use Rattle.ts_serve.specs.Servers.{CanAskInServer};
-ghost use Rattle.ts_serve.specs.Working.{CanWork};
+ghost use Rattle.ts_serve.specs.Working.{CanWork, WorkWholeInServer};
 
 use crate::acceptor::Acceptor;
 use crate::place::PlaceGroup;
@@ -15,11 +15,11 @@ use crate::rounds::serve_rounds;
 use crate::service::Service;
 use crate::source::ClientSource;
 use crate::tenant::Handler;
-use crate::worker::{Task, run_beside};
+use crate::worker::{Task, Worked, run_beside};
 use std::sync::Wait;
 use std::sync::atomic::Ordering;
 use std::thread::Threads;
-use ts_group::World;
+use ts_group::Rouse;
 use ts_link::{Clock, Gate, NoMemory};
 use ts_slot::Slotted;
 use ts_thread::{Desk, MOST_THREADS};
@@ -53,7 +53,7 @@ impl<
     'n,
     N: ClientSource,
     W: Handler<N::Client, N::Origin> + Drop,
-    P: World<Question = W::Question, Reply = W::Reply> + Drop,
+    P: Rouse<Question = W::Question, Reply = W::Reply> + Drop,
     G: Gate,
     C: Clock,
     R: Wait,
@@ -102,7 +102,7 @@ fn take_back<N>(net: &mut N)
 fn serve_alone<
     N: ClientSource,
     W: Handler<N::Client, N::Origin> + Drop,
-    P: World<Question = W::Question, Reply = W::Reply> + Drop,
+    P: Rouse<Question = W::Question, Reply = W::Reply> + Drop,
     G: Gate,
     C: Clock,
     R: Wait,
@@ -130,11 +130,22 @@ fn serve_alone<
     }
 }
 
+// How the first thread ended, unless memory lacked in another one.
+fn ended_whole(ended: Result<(), NoMemory>, whole: bool) -> Result<(), NoMemory>
+    ensures { OnOk result ((ended ≡ Ok tt) × (whole ≡ true)) }
+{
+    ended?;
+    if !whole {
+        return Err(NoMemory);
+    }
+    Ok(())
+}
+
 // Of so many threads, more than one, the first accepts clients beside the others, each with a part of the desk.
 fn serve_beside<
     N: ClientSource,
     W: Handler<N::Client, N::Origin> + Drop + Send,
-    P: World<Question = W::Question, Reply = W::Reply> + Drop + Send,
+    P: Rouse<Question = W::Question, Reply = W::Reply> + Drop + Send,
     G: Gate + Sync,
     C: Clock + Sync,
     R: Threads + Wait + Sync,
@@ -155,6 +166,9 @@ fn serve_beside<
     ensures serves { Serves N.tells W.is_done service.now.shared.slots.now service.now.shared.queue.now
         result.ended desk result.desk acceptor result.acceptor (N.seen net.old) (N.seen net.new) }
     ensures over { OnOk result.ended (IsOver result.acceptor) }
+    ensures helped { OnOk result.ended (WorkWholeInServer W.fits W.keeps W.asking W.answers W.called
+        W.heard W.left P.fits P.asking P.answers P.called P.heard P.left
+        (tags_of service.now.shared.slots.now) threads desk result.desk) }
 {
     let Ok(first) = desk.split(service.alloc, service.shared.slots, service.shared.queue) else {
         return Joined {
@@ -170,8 +184,9 @@ fn serve_beside<
         desk: first,
         acceptor,
     };
-    let (mut desk, (net, joined)) = run_beside(service, SECOND, threads - 1, desk, task);
+    let (worked, (net, joined)) = run_beside(service, SECOND, threads - 1, desk, task);
     take_back(net);
+    let Worked { mut desk, whole } = worked;
     let Joined {
         desk: first,
         acceptor,
@@ -181,17 +196,17 @@ fn serve_beside<
     Joined {
         desk,
         acceptor,
-        ended,
+        ended: ended_whole(ended, whole),
     }
 }
 
 /// Serves the net with so many event threads. The first of them is this one and accepts clients; the others
 /// take turns until it is done. Where no thread can be made, it does all the work. Where memory lacks in one
-/// of them, they all stop.
+/// of them, they all stop, and the answer says so, even if the first one was done before.
 pub fn run_event_threads<
     N: ClientSource,
     W: Handler<N::Client, N::Origin> + Drop + Send,
-    P: World<Question = W::Question, Reply = W::Reply> + Drop + Send,
+    P: Rouse<Question = W::Question, Reply = W::Reply> + Drop + Send,
     G: Gate + Sync,
     C: Clock + Sync,
     R: Threads + Wait + Sync,
@@ -212,6 +227,9 @@ pub fn run_event_threads<
     ensures serves { Serves N.tells W.is_done service.now.shared.slots.now service.now.shared.queue.now
         result.ended desk result.desk acceptor result.acceptor (N.seen net.old) (N.seen net.new) }
     ensures over { OnOk result.ended (IsOver result.acceptor) }
+    ensures helped { OnOk result.ended (WorkWholeInServer W.fits W.keeps W.asking W.answers W.called
+        W.heard W.left P.fits P.asking P.answers P.called P.heard P.left
+        (tags_of service.now.shared.slots.now) threads desk result.desk) }
 {
     if threads == 1 {
         return serve_alone(service, setting, net, desk, acceptor);

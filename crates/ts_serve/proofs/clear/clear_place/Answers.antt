@@ -1,13 +1,14 @@
 -- The client that was in the row for the place was handed over, and the balance stays right.
 use Rattle.std.proofs.Common.{◌≡◌, ◌∙◌, get_or, subst, sym}
-use Rattle.std.proofs.lemmas.List.{get_or_read}
+use Rattle.std.proofs.lemmas.List.{get_or_read, get_or-set_same}
 use Rattle.ts_txn.specs.Net.{IsHanded}
 use Rattle.ts_serve.specs.declared.connection.Connection.TheVariants.{Free, Accepted}
 use Rattle.ts_serve.proofs.Balance.{balance_out, no_more_out}
+use Rattle.ts_serve.proofs.Cleared.{goes_out, runs_on}
 use Rattle.ts_serve.proofs.clear.clear_place.Goals as goal
 
-pub returns-in_ok-hand_over-clause-balance : goal.returns-in_ok-hand_over-clause-balance
-returns-in_ok-hand_over-clause-balance g c = λ tells terms fits misdials balance.
+pub returns-then-has_ended-clause-balance : goal.returns-then-has_ended-clause-balance
+returns-then-has_ended-clause-balance g c = λ tells terms fits misdials balance.
     let row = c.args.row.now.items in
     let connected = c.in-Accepted in
     let old = g.N.ClientSource.seen c.args.net.now in
@@ -20,8 +21,8 @@ returns-in_ok-hand_over-clause-balance g c = λ tells terms fits misdials balanc
     (subst (λ told. IsHanded told over.retired old new) tells over.handed) over.number_is over.origin_is
     over.done balance
 
-pub returns-in_ok-hand_over-clause-no_more : goal.returns-in_ok-hand_over-clause-no_more
-returns-in_ok-hand_over-clause-no_more g c =
+pub returns-then-has_ended-clause-no_more : goal.returns-then-has_ended-clause-no_more
+returns-then-has_ended-clause-no_more g c =
     let row = c.args.row.now.items in
     let connected = c.in-Accepted in
     let found : get_or row c.args.k Free ≡ Accepted connected.number connected.has_origin connected.started =
@@ -29,3 +30,18 @@ returns-in_ok-hand_over-clause-no_more g c =
     no_more_out row c.args.k connected.number connected.has_origin connected.started (g.N.ClientSource.seen c.args.net.now)
     (g.N.ClientSource.seen c.hand_over.new.net) c.requires.place found c.in_ok-hand_over.ensures.more
     c.hand_over.ensures.net.given
+
+pub returns-then-has_ended-clause-cleared : goal.returns-then-has_ended-clause-cleared
+returns-then-has_ended-clause-cleared g c =
+    goes_out g.W.Handler.number_of g.W.Handler.holds_origin g.W.Handler.is_ended c.args.k c.args.group
+    c.args.row.now.items _ (get_or-set_same c.args.row.now.items c.args.k Free Free c.requires.place)
+
+pub returns-clause-cleared : goal.returns-clause-cleared
+returns-clause-cleared g c =
+    let row = c.args.row.now.items in
+    let connected = c.in-Accepted in
+    let found : get_or row c.args.k Free ≡ Accepted connected.number connected.has_origin connected.started =
+    sym (get_or_read row c.args.k c.index.result.now c.requires.place c.index.ensures Free) ∙ connected.is in
+    runs_on g.W.Handler.number_of g.W.Handler.holds_origin g.W.Handler.is_ended c.args.k c.args.group row row
+    connected.number connected.has_origin connected.started found
+    (c.is_running.ensures.0 c.if-not-is_running.false)

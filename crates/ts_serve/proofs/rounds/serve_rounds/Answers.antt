@@ -26,35 +26,24 @@ returns-then-is_over-clause-serves g c = record {
   all = c.rounds.invariant.3;
 }
 
-pub returns-in_err-take_round-clause-serves : goal.returns-in_err-take_round-clause-serves
-returns-in_err-take_round-clause-serves g c = record {
-  at_desk = c.take_round.ensures.at_desk;
-  at_acceptor = c.take_round.ensures.at_acceptor;
-  goes = goes_further c.args.desk.now c.rounds.desk c.take_round.new.desk
-      c.args.acceptor.now c.rounds.acceptor c.take_round.new.acceptor
+pub returns-in_err-go_round-clause-serves : goal.returns-in_err-go_round-clause-serves
+returns-in_err-go_round-clause-serves g c = record {
+  at_desk = c.go_round.ensures.at_desk;
+  at_acceptor = c.go_round.ensures.at_acceptor;
+  goes = goes_further c.args.desk.now c.rounds.desk c.go_round.new.desk
+      c.args.acceptor.now c.rounds.acceptor c.go_round.new.acceptor
       (g.N.ClientSource.seen c.args.net.now) (g.N.ClientSource.seen c.rounds.net)
-      (g.N.ClientSource.seen c.take_round.new.net) c.rounds.invariant.2 c.take_round.ensures.goes;
+      (g.N.ClientSource.seen c.go_round.new.net) c.rounds.invariant.2 c.go_round.ensures.goes;
   all = lacks_any c.from_residual.result _ _ c.from_residual.ensures.1;
 }
 
 pub rounds-preserved : goal.rounds-preserved
 rounds-preserved g c = (
-  c.take_round.ensures.at_desk,
-  c.take_round.ensures.at_acceptor,
-  goes_further c.args.desk.now c.rounds.desk c.take_round.new.desk
-      c.args.acceptor.now c.rounds.acceptor c.take_round.new.acceptor
+  c.go_round.ensures.at_desk,
+  c.go_round.ensures.at_acceptor,
+  goes_further c.args.desk.now c.rounds.desk c.go_round.new.desk
+      c.args.acceptor.now c.rounds.acceptor c.go_round.new.acceptor
       (g.N.ClientSource.seen c.args.net.now) (g.N.ClientSource.seen c.rounds.net)
-      (g.N.ClientSource.seen c.take_round.new.net) c.rounds.invariant.2 c.take_round.ensures.goes,
-  λ all. c.in_ok-take_round.ensures.all (c.rounds.invariant.3 all),
-)
-
-pub rounds-preserved-then-branch : goal.rounds-preserved-then-branch
-rounds-preserved-then-branch g c = (
-  c.take_round.ensures.at_desk,
-  c.take_round.ensures.at_acceptor,
-  goes_further c.args.desk.now c.rounds.desk c.take_round.new.desk
-      c.args.acceptor.now c.rounds.acceptor c.take_round.new.acceptor
-      (g.N.ClientSource.seen c.args.net.now) (g.N.ClientSource.seen c.rounds.net)
-      (g.N.ClientSource.seen c.take_round.new.net) c.rounds.invariant.2 c.take_round.ensures.goes,
-  λ all. c.in_ok-take_round.ensures.all (c.rounds.invariant.3 all),
+      (g.N.ClientSource.seen c.go_round.new.net) c.rounds.invariant.2 c.go_round.ensures.goes,
+  λ all. c.in_ok-go_round.ensures.all (c.rounds.invariant.3 all),
 )

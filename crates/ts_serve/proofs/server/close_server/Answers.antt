@@ -1,14 +1,16 @@
--- The groups of a server that is closed fit their tags, and go on to do so.
+-- The groups of a server that is closed fit their tags, and go on to do so; and its places are cleared.
 use Rattle.std.proofs.Common.{length, sym, ap, subst, ◌∙◌}
+use Rattle.std.proofs.lemmas.Result.{IfOk-weaker}
 use Rattle.ts_lists.proofs.Fronts.{taken_table}
 use Rattle.ts_lists.proofs.Pairs.{zip_from_found}
 use Rattle.ts_slot.specs.Words.{tags_of}
 use Rattle.ts_serve.specs.Opening.{FitServer}
+use Rattle.ts_serve.proofs.Cleared.{closed_over}
 use Rattle.ts_serve.proofs.Servers.{FitsTag, fit_places}
 use Rattle.ts_serve.proofs.server.close_server.Goals as goal
 
-pub finish_left-requires : goal.finish_left-requires
-finish_left-requires g c = record {
+pub finish_left-handled-requires : goal.finish_left-handled-requires
+finish_left-handled-requires g c = record {
   fits = (
     tags_of c.args.server.slots,
     c.requires.asks,
@@ -28,12 +30,24 @@ returns-clause-balance g c = λ telling terms places misdials balance.
     (zip_from_found (FitsTag g.W.Slotted.fits g.W.Tenant.keeps g.W.World.sound g.P.Slotted.fits
     g.P.World.sound g.P.World.only_asked g.P.World.is_first) tags c.in-Ok.groups.items
     c.in-Ok.ensures.count (λ k x at. (c.in-Ok.ensures.values k x at).fit)) in
-    let done = c.finish_left.ensures.fit tags fit in
-    let long = c.finish_left.ensures.count ∙ ap length c.as_mut_slice.ensures.value ∙ sym c.in-Ok.groups.ok.0 in
-    c.clear_places.ensures.balance telling terms
+    let done = c.finish_left-handled.ensures.fit tags fit in
+    let long = c.finish_left-handled.ensures.count ∙ ap length c.as_mut_slice.ensures.value
+    ∙ sym c.in-Ok.groups.ok.0 in
+    c.clear_places-cleared.ensures.balance telling terms
     (fit_places g.W.Slotted.fits g.W.Tenant.keeps g.W.World.sound g.P.Slotted.fits g.P.World.sound
     g.P.World.only_asked g.P.World.is_first tags terms _ places
     (taken_table (FitServer g.W.Slotted.fits g.W.Tenant.keeps g.W.World.sound g.P.Slotted.fits g.P.World.sound
-    g.P.World.only_asked g.P.World.is_first tags) c.in-Ok.groups.len c.finish_left.new.groups
+    g.P.World.only_asked g.P.World.is_first tags) c.in-Ok.groups.len c.finish_left-handled.new.groups
     c.in-Ok.groups.items long done))
     misdials balance
+
+pub returns-clause-closed : goal.returns-clause-closed
+returns-clause-closed g c =
+    let as_many = c.finish_left-handled.ensures.count ∙ ap length c.as_mut_slice.ensures.value in
+    IfOk-weaker c.found_whole.result _ _
+    (λ found is. closed_over g.W.Handler.number_of g.W.Handler.holds_origin g.W.Handler.is_ended
+    (tags_of c.args.server.slots) c.in-Ok.groups.len c.finish_left-handled.new.groups c.in-Ok.groups.items
+    found.value.items c.args.row.now.items c.clear_places-cleared.new.row.items c.finish_left-handled.result
+    c.clear_places-cleared.result (ap (λ s. s.value.items) is.0 ∙ ap (λ v. v.items) c.of-found.ensures)
+    (as_many ∙ sym c.in-Ok.groups.ok.0) (as_many ∙ c.in-Ok.ensures.count) is.1
+    c.finish_left-handled.ensures.idle is.2 c.clear_places-cleared.ensures.cleared) c.found_whole.ensures
