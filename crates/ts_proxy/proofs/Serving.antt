@@ -145,6 +145,7 @@ module _ {C O : Type 0} (client : link.Ghosts C) (origin : link.Ghosts O) (both 
               once = all.once;
               dialed = all.dialed;
             };
+        one = λ net_tell. inr (record { setup = setup; given = told; are_done = (are net_tell).each });
         few = left.few;
         no_more = left.no_more;
         shut = left.shut;
@@ -183,6 +184,7 @@ module _ {C O : Type 0} (client : link.Ghosts C) (origin : link.Ghosts O) (both 
       → IsServedNet client origin both tells net_tells shelf shelf' words (status_of answer) old old
   net-unserved words tells net_tells shelf shelf' answer old fresh told cause = record {
     retired = λ net_tell. none-retired _ old old fresh refl;
+    one = λ net_tell. inl fresh.retired;
     few = subst (λ n. n ≤ words.connections) (sym fresh.given) (omega arith);
     no_more = let given = fresh.given in let handed = fresh.handed in omega arith;
     shut = inl refl;

@@ -1,5 +1,5 @@
 -- What `serve` leaves of the net: what it was handed, and why serving it ended.
-use Rattle.std.specs.Prelude.{◌≡◌, ◌≤◌, ◌⊎◌, ⊤, ℕ, List, Bool, true, Option, Some}
+use Rattle.std.specs.Prelude.{◌≡◌, ◌≤◌, ◌⊎◌, ⊤, ℕ, [], All, List, Bool, true, Option, Some}
 use Rattle.ts_config.specs.Setup.{lines_of}
 use Rattle.ts_config.specs.declared.setup.Setup.{Setup}
 use Rattle.ts_link.specs.Counts.{Rose}
@@ -48,12 +48,22 @@ module _ {C O : Type 0} (client : link.Ghosts C) (origin : link.Ghosts O) (both 
     pub given : tells ≡ true → o ≡ Serving (lines_of setup)
     pub is_done : IsTxnDone client origin both stock_transform setup PLACES r
 
+  -- One setup stands behind all of them: each has ended under it, and where the files are told, it is the one
+  -- that they give.
+  pub record HaveOneSetup (tells : Bool) (o : Outcome) (all : List (Retired C O)) : Type 0 where
+    pub setup : Setup
+    pub given : tells ≡ true → o ≡ Serving (lines_of setup)
+    pub are_done : All (IsTxnDone client origin both stock_transform setup PLACES) all
+
   -- What serving a net came to, and what that leaves of it.
   pub record IsServedNet (tells net_tells : Bool) (shelf shelf' : ShelfSeen) (words : ServeWords) (n : ℕ)
       (old new : NetSeen C O) : Type 0 where
     -- each client that was handed over is one that the net gave, which has ended under the lines of the files
     pub retired : net_tells ≡ true
         → AreRetired (IsDoneAt tells (outcome_of shelf (Some (Serve words)))) old new
+    -- and all of them under one setup, if there is one
+    pub one : net_tells ≡ true
+        → (new.retired ≡ []) ⊎ HaveOneSetup tells (outcome_of shelf (Some (Serve words))) new.retired
     -- it gave no more than were asked for
     pub few : new.given ≤ words.connections
     -- and was handed no more than it gave
