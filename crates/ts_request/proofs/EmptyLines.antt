@@ -5,10 +5,9 @@ use Rattle.std.specs.List.{list_all}
 use Rattle.std.proofs.lemmas.List.{length-take, take-append-le, take-take}
 use Rattle.std.proofs.lemmas.List.Folds.{list_all-append, list_all_more}
 use Rattle.httparse.specs.Ascii.{space}
-use Rattle.httparse.specs.Grammar.{RequestHead, print_blank, print_end, print_request, print_section}
-use Rattle.httparse.specs.Grammar.{print_version}
+use Rattle.httparse.specs.Grammar.{HasNoRequest, RequestHead, print_blank, print_end, print_request}
+use Rattle.httparse.specs.Grammar.{print_section, print_version}
 use Rattle.ts_request.specs.Lines.{AreBlank, is_end_byte}
-use Rattle.ts_request.specs.Upload.{LacksUpload}
 
 -- ---- they are counted
 
@@ -58,8 +57,7 @@ head_other h rest =
     (still_other targeted (space ∷ print_version h.minor)
     (space_other (print_blank h.blank ++ h.method) h.target))))
 
-pub blank_lacks : (bytes : List ℕ) → AreBlank bytes → LacksUpload bytes
-blank_lacks bytes blank h framing rest has =
-    let wrong : true ≡ false =
-    sym blank ∙ ap (list_all is_end_byte) has.begins.reads.1 ∙ head_other h rest in
+pub blank_none : (bytes : List ℕ) → AreBlank bytes → HasNoRequest bytes
+blank_none bytes blank h rest reads =
+    let wrong : true ≡ false = sym blank ∙ ap (list_all is_end_byte) reads.1 ∙ head_other h rest in
     absurd (cc)

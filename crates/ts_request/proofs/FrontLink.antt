@@ -11,14 +11,15 @@ use Rattle.ts_link.specs.declared.link.Got.{Got}
 use Rattle.ts_link.specs.declared.link.Put.{Put}
 use Rattle.ts_link.specs.declared.link.Put.TheVariants as P
 use Rattle.ts_upstream.specs.Uploads.{UploadsClient}
-use Rattle.ts_request.specs.Front.{BodyStays, Holds, HoldsLink, IsShown, KeepsBody, Shows, body_given}
-use Rattle.ts_request.specs.Front.{body_given_by, body_left, body_left_by, body_most_by, given_by, left_by}
-use Rattle.ts_request.specs.Front.{shown_through}
+use Rattle.ts_request.specs.Front.{AwaitsHead, BodyStays, Holds, HoldsLink, HoldsText, IsShown, KeepsBody}
+use Rattle.ts_request.specs.Front.{Shows, body_given, body_given_by, body_left, body_left_by, body_most_by}
+use Rattle.ts_request.specs.Front.{given_by, left_by, shown_through}
 use Rattle.ts_request.specs.Laws.{stage_stays}
 use Rattle.ts_request.specs.Text.{Text, no_text, waiting}
-use Rattle.ts_request.specs.Upload.{LacksUpload, Strips, other, upload}
+use Rattle.ts_request.specs.Upload.{Strips, other, upload}
 use Rattle.ts_request.specs.declared.stage.Stage.{Stage}
 use Rattle.ts_request.specs.declared.stage.Stage.TheVariants as S
+use Rattle.ts_request.proofs.EmptyLines.{blank_none}
 use Rattle.ts_request.proofs.LinkCalls.{replace_none, replace_not, replace_short}
 use Rattle.ts_request.proofs.FrontMoves.{before_is, body_is, has_given, holds_same, link_same}
 
@@ -78,15 +79,11 @@ module _ (t : Text) (l m : Look) (given : m.given ≡ l.given) where
 
 -- ---- a front that is new
 
--- no bytes are no upload
-none_lacks : LacksUpload []
-none_lacks h framing rest has = let some = has_given [] h framing rest has in absurd (omega (arith, some))
-
 pub new_holds : (tells : Bool) (t : Text) (l : Look) → t ≡ no_text → (tells ≡ true → l.given ≡ [])
     → Holds tells t l
 new_holds tells t l none given =
     subst (λ u. Holds tells u l) (sym none)
-    (record { text = (refl, refl, omega arith, none_lacks); link = given })
+    (record { text = (refl, refl, omega arith, blank_none [] refl); link = given })
 
 -- ---- a read
 
@@ -228,6 +225,19 @@ shown_by (S.Uploading framing) t l link = (
 pub knows_client : (tells : Bool) (t : Text) (l : Look) → Holds tells t l → tells ≡ true
     → IsShown t.stage (all_of l) (all_of (shown_through t l)) (body_given t l ++ body_left t l)
 knows_client tells t l holds tell = shown_by t.stage t l (holds.link tell)
+
+-- until then they await a head
+awaits_by : (s : Stage) (t : Text) (l : Look) → s ≡ S.Heading → HoldsText s t → HoldsLink s t l
+    → AwaitsHead l.given
+awaits_by S.Heading t l heading text link =
+    subst AwaitsHead (sym link) (record { none = text.3; short = text.2 })
+awaits_by S.Passing t l heading text link = absurd (cc)
+awaits_by (S.Uploading framing) t l heading text link = absurd (cc)
+
+pub awaits_client : (tells : Bool) (t : Text) (l : Look) → Holds tells t l → tells ≡ true
+    → t.stage ≡ S.Heading → AwaitsHead l.given
+awaits_client tells t l holds tell heading =
+    awaits_by t.stage t l heading holds.text (holds.link tell)
 
 -- that is what `Strips` says, once it is known what is shown
 pub strips_shown : (s : Stage) (c shown body : List ℕ) → s ≢ S.Heading → IsShown s c shown body

@@ -5,7 +5,7 @@ use Rattle.std.proofs.Common.{append_assoc, length-append}
 use Rattle.std.proofs.lemmas.List.{append-nil, drop_at, length-take, nil_from_length, take-append-drop}
 use Rattle.ts_lists.proofs.Fronts.{rest_by_length}
 use Rattle.httparse.specs.Grammar as grammar
-use Rattle.httparse.specs.Grammar.{print_request}
+use Rattle.httparse.specs.Grammar.{HasNoRequest, print_request}
 use Rattle.ts_link.specs.Link.{Calls, GivesMore, Look, MayReplace, ReadsSurely, all_of}
 use Rattle.ts_wire.specs.Limits.{head_limit}
 use Rattle.ts_wire.specs.declared.framing.Framing.{Framing}
@@ -19,6 +19,7 @@ use Rattle.ts_request.specs.declared.stage.Stage.{Stage}
 use Rattle.ts_request.specs.declared.stage.Stage.TheVariants as S
 use Rattle.ts_request.proofs.LinkCalls.{calls_after, calls_none, gives_after, gives_none, replace_short}
 use Rattle.ts_request.proofs.LinkCalls.{sure_after, sure_none}
+use Rattle.ts_request.proofs.FoundUpload.{none_now}
 use Rattle.ts_request.proofs.HeadLines.{stripped_short}
 use Rattle.ts_wire.proofs.RequestLemmas.{request_some}
 
@@ -156,10 +157,10 @@ module _ (tells : Bool) (front : List ℕ) (used : ℕ) (l m : Look) (more : Lis
     (calls : Calls l m failed waited) (writes : m.writes ≡ l.writes) (sure : ReadsSurely l failed waited)
     (given : tells ≡ true → l.given ≡ front) (told : tells ≡ true → GivesMore l m more) where
   -- the head is not whole yet
-  still_heading : LacksUpload (front ++ more) → length (front ++ more) < head_limit
+  still_heading : HasNoRequest (front ++ more) → length (front ++ more) < head_limit
       → Moves tells (heading_text front used) (heading_text (front ++ more) used) l m failed waited []
       × Holds tells (heading_text (front ++ more) used) m
-  still_heading lacks short = (
+  still_heading none short = (
     record {
       calls = calls;
       writes = writes;
@@ -179,7 +180,7 @@ module _ (tells : Bool) (front : List ℕ) (used : ℕ) (l m : Look) (more : Lis
       };
     },
     record {
-      text = (refl, refl, short, lacks);
+      text = (refl, refl, short, none);
       link = λ tell. came_given front l m more (given tell) (told tell);
     },
   )
@@ -318,7 +319,7 @@ module _ (tells : Bool) (t : Text) (l m : Look) (more : List ℕ) (failed waited
       front_to t' (subst (λ u. MovesTo tells (heading_text t.front t.used) u l m failed waited) (sym (is
       ∙ more_is))
       (still_heading tells t.front t.used l m more failed waited calls writes sure from_front told
-      (subst LacksUpload (sym front) heads.3) (subst (λ x. length x < head_limit) (sym front) heads.2)))
+      (subst HasNoRequest (sym front) heads.3) (subst (λ x. length x < head_limit) (sym front) heads.2)))
 
   -- it has ended
   pub seeks_end : (t1 t' : Text) → t1 ≡ with_more t more → t' ≡ record t1 { stage = S.Passing } → more ≡ []
@@ -329,7 +330,8 @@ module _ (tells : Bool) (t : Text) (l m : Look) (more : List ℕ) (failed waited
       let front : t.front ++ more ≡ t.front = ap (λ x. t.front ++ x) none ∙ append-nil t.front in
       front_to t' (subst (λ u. MovesTo tells (heading_text t.front t.used) u l m failed waited) (sym text)
       (now_passing tells t.front t.used l m more failed waited calls writes sure from_front told
-      (λ tell. subst LacksUpload (sym (all tell front)) heads.3) (λ tell none. ended tell)))
+      (λ tell. none_now (all_of m) (subst HasNoRequest (sym (all tell front)) heads.3))
+      (λ tell none. ended tell)))
     where
       all : tells ≡ true → t.front ++ more ≡ t.front → all_of m ≡ t.front
       all tell front =

@@ -5,10 +5,9 @@ use Rattle.std.specs.Prelude.{◌==◌, flat_map}
 use Rattle.std.specs.List.{list_any}
 use Rattle.std.proofs.lemmas.List.{take-append-drop}
 use Rattle.httparse.specs.Ascii.{carriage_return, line_feed, space}
-use Rattle.httparse.specs.Grammar.{Field, LineEnd, RequestHead, crlf, lf, print_blank, print_end, print_field}
-use Rattle.httparse.specs.Grammar.{print_request, print_section, print_version}
+use Rattle.httparse.specs.Grammar.{Field, HasNoRequest, LineEnd, RequestHead, crlf, lf, print_blank}
+use Rattle.httparse.specs.Grammar.{print_end, print_field, print_request, print_section, print_version}
 use Rattle.ts_request.specs.Text.{before_last}
-use Rattle.ts_request.specs.Upload.{LacksUpload}
 
 -- a text that ends with a line feed
 abbrev fed : List ℕ → List ℕ
@@ -60,20 +59,13 @@ feed_before (b ∷ before) more (f ∷ front) rest is none =
     let left = feed_before before more front rest behind none in
     (left.0, λ i. first i ∷ left.1 i)
 
--- no upload comes with bytes that have none
-pub still_lacks : (bytes : List ℕ) (fresh : ℕ)
+-- no head comes with bytes that have none
+pub still_none : (bytes : List ℕ) (fresh : ℕ)
     → list_any (λ b. b == line_feed) (drop (length bytes - fresh) bytes) ≡ false
-    → LacksUpload (before_last fresh bytes) → LacksUpload bytes
-still_lacks bytes fresh none lacks h framing rest has =
+    → HasNoRequest (before_last fresh bytes) → HasNoRequest bytes
+still_none bytes fresh quiet none h rest reads =
     let at = length bytes - fresh in
     let head = request_fed h in
     let left = feed_before (take at bytes) (drop at bytes) head.0 rest
-    (take-append-drop at bytes ∙ has.begins.reads.1 ∙ ap (λ t. t ++ rest) head.1) none in
-    lacks h framing left.0 (record {
-      begins = record {
-        reads = (has.begins.reads.0, left.1 ∙ ap (λ t. t ++ left.0) (sym head.1));
-        short = has.begins.short;
-        few = has.begins.few;
-      };
-      framed = has.framed;
-    })
+    (take-append-drop at bytes ∙ reads.1 ∙ ap (λ t. t ++ rest) head.1) quiet in
+    none h left.0 (reads.0, left.1 ∙ ap (λ t. t ++ left.0) (sym head.1))

@@ -2,7 +2,7 @@
 -- that it hands over apart from it.
 use Rattle.std.specs.Prelude.{◌≡◌, ℕ, ◌-◌, ◌<◌, ◌≤◌, List, [], ◌++◌, length, take, drop, Bool, true, ⊤}
 use Rattle.httparse.specs.Grammar as grammar
-use Rattle.httparse.specs.Grammar.{print_request}
+use Rattle.httparse.specs.Grammar.{HasNoRequest, print_request}
 use Rattle.ts_link.specs.Link.{Look, Calls, ReadsSurely, GivesMore, all_of}
 use Rattle.ts_link.specs.LinkAnswers.{FillsSome, EndsWell, count_got, got_again, got_failed}
 use Rattle.ts_link.specs.declared.link.Got.{Got}
@@ -92,7 +92,7 @@ pub record HandsOn (framing : Framing) (t : Text) (l : Look) : Type 0 where
 -- the text is such as its stage says
 abbrev pub HoldsText : Stage → Text → Type 0
 HoldsText S.Heading t =
-    (t.shown ≡ 0) × (t.behind ≡ []) × (length t.front < head_limit) × LacksUpload t.front
+    (t.shown ≡ 0) × (t.behind ≡ []) × (length t.front < head_limit) × HasNoRequest t.front
 HoldsText S.Passing t = (t.shown ≤ length t.front) × (t.behind ≡ [])
 HoldsText (S.Uploading framing) t = t.shown ≤ length t.front
 
@@ -121,6 +121,16 @@ abbrev pub ShowsClient : {C : Type 0} → (C → Look) → FrontSeen C → Type 
 ShowsClient look f =
     IsShown f.text.stage (all_of (look f.client)) (all_of (front_look look f))
     (body_given f.text (look f.client) ++ body_left f.text (look f.client))
+
+-- No whole head of a request stands in these bytes, and they are fewer than a head may have (RFC 9112, section
+-- 2.1).
+pub record AwaitsHead (c : List ℕ) : Type 0 where
+  pub none : HasNoRequest c
+  pub short : length c < head_limit
+
+-- a front that does not know yet what it shows asks its client for more: what this one gave awaits a head
+abbrev pub AsksClient : {C : Type 0} → (C → Look) → FrontSeen C → Type 0
+AsksClient look f = f.text.stage ≡ S.Heading → AwaitsHead (look f.client).given
 
 -- ---- calls
 

@@ -1,9 +1,9 @@
 -- What a front holds of the bytes that its link gave.
 use Rattle.std.specs.Prelude.{◌≡◌, ℕ, ◌-◌, ◌<◌, Bool, true, false, List, [], ◌++◌, length, take, drop}
 use Rattle.httparse.specs.Grammar as grammar
-use Rattle.httparse.specs.Grammar.{print_request}
+use Rattle.httparse.specs.Grammar.{HasNoRequest, print_request}
 use Rattle.ts_wire.specs.Limits.{head_limit}
-use Rattle.ts_request.specs.Upload.{HasUpload, LacksUpload, NeverHasUpload, without_body}
+use Rattle.ts_request.specs.Upload.{HasUpload, NeverHasUpload, without_body}
 use Rattle.ts_request.specs.declared.stage.Stage.{Stage}
 use Rattle.ts_request.specs.declared.stage.Stage.TheVariants as S
 
@@ -37,16 +37,17 @@ with_more t more = record t { front = t.front ++ more }
 abbrev pub before_last : ℕ → List ℕ → List ℕ
 before_last fresh bytes = take (length bytes - fresh) bytes
 
--- No head ends within the last so many bytes, and more of one can be held: where there was no upload before
--- them, there is none now.
+-- No head ends within the last so many bytes, and more of one can be held: where no whole head stood before
+-- them, none stands now.
 pub record CannotEnd (fresh : ℕ) (bytes : List ℕ) : Type 0 where
   pub short : length bytes < head_limit
-  pub lacks : LacksUpload (before_last fresh bytes) → LacksUpload bytes
+  pub none : HasNoRequest (before_last fresh bytes) → HasNoRequest bytes
 
--- what the first bytes of a client say of what is shown of it: with more of them it may be known; there is no
--- upload, whatever follows; or there is one, whose head is stripped and behind which the rest stands
+-- what the first bytes of a client say of what is shown of it: no whole head is among them, and with more of
+-- them it may be known; there is no upload, whatever follows; or there is one, whose head is stripped and
+-- behind which the rest stands
 abbrev pub Decides : Text → Text → Stage → Type 0
-Decides old new S.Heading = (new ≡ old) × LacksUpload old.front × (length old.front < head_limit)
+Decides old new S.Heading = (new ≡ old) × HasNoRequest old.front × (length old.front < head_limit)
 Decides old new S.Passing = (new ≡ record old { stage = S.Passing }) × NeverHasUpload old.front
 Decides old new (S.Uploading framing) =
     (h : grammar.RequestHead) × HasUpload old.front h framing new.behind

@@ -10,7 +10,7 @@ use ts_wire::{Framing, MAX_FIELDS, MAX_HEAD, request_end};
 // What the first bytes of a client say of an upload.
 #[derive(Clone, Copy)]
 pub(crate) enum Found {
-    // Not yet whether there is one.
+    // Not yet whether there is one: no whole head is among them.
     More,
     // There is none, whatever follows.
     Never,

@@ -3,8 +3,8 @@
 ghost use Rattle.std.specs.Prelude.{◌≡◌, ◌≢◌, ◌<◌, [], length, true, refl, IfOk};
 ghost use Rattle.std.proofs.Common.{◌∙◌};
 ghost use Rattle.ts_link.specs.Link.{all_of};
-ghost use Rattle.ts_request.specs.Front.{FrontGoes, FrontStill, ReadsBody, ShowsClient, front_look};
-ghost use Rattle.ts_request.specs.Front.{fresh_front};
+ghost use Rattle.ts_request.specs.Front.{AsksClient, FrontGoes, FrontStill, ReadsBody, ShowsClient};
+ghost use Rattle.ts_request.specs.Front.{fresh_front, front_look};
 ghost use Rattle.ts_request.specs.Laws.{keeps_body, keeps_body_on};
 ghost use Rattle.ts_request.specs.Upload.{Strips};
 ghost use Rattle.ts_upstream.specs.Uploads.{StayPaired, UploadCauses, UploadFalls, UploadKeeps, Uploads};
@@ -72,11 +72,12 @@ impl<C: Link + Drop> Front<C> {
     }
 
     /// What holds of every one whose client tells: what it shows of all that this one gave and may still
-    /// give.
+    /// give, and that it asks for more only where no whole head came.
     pub fn known(&self)
         ensures shows { C.tells ≡ true → ShowsClient C.look self.now }
         ensures strips { C.tells ≡ true → self.now.text.stage ≢ Stage.Heading
             → Strips (all_of (C.look self.now.client)) (all_of (front_look C.look self.now)) }
+        ensures awaits { C.tells ≡ true → AsksClient C.look self.now }
     {
         let _ = &self.text;
     }

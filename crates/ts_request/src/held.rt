@@ -1,12 +1,12 @@
 //! What a front holds of the bytes that its client gave: the head of a request until it is known, and what is
 //! shown of it and follows it from then on.
 ghost use Rattle.std.specs.Prelude.{◌≡◌, ◌<◌, ◌≤◌, [], false, length, IfOk};
+ghost use Rattle.httparse.specs.Grammar.{HasNoRequest};
 ghost use Rattle.ts_link.specs.LinkAnswers.{count_got};
 ghost use Rattle.ts_wire.specs.Limits.{head_limit};
 ghost use Rattle.ts_request.specs.declared.stage.Stage.{Stage};
 ghost use Rattle.ts_request.specs.Held.{Copies, FillsFrom, GivesFront, HandsFront, ReadsBehind};
 ghost use Rattle.ts_request.specs.Text.{CannotEnd, Decides, before_last, is_heading, no_text};
-ghost use Rattle.ts_request.specs.Upload.{LacksUpload};
 
 use crate::finding::{Found, find_upload};
 use crate::lines::{blank_len, keep_lines};
@@ -161,7 +161,7 @@ impl HeldText {
         requires shown { self.old.shown ≡ 0 }
         requires behind { self.old.behind ≡ [] }
         requires fresh { fresh ≤ length self.old.front }
-        requires lacks { LacksUpload (before_last fresh self.old.front) }
+        requires none { HasNoRequest (before_last fresh self.old.front) }
         ensures { Decides self.old self.new self.new.stage }
     {
         if !self.may_end(fresh) {

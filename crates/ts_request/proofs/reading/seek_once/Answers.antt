@@ -1,7 +1,7 @@
 -- Each answer of one read of the client for the head.
 use Rattle.std.proofs.Common.{ap, inl, subst, sym, ◌∙◌}
+use Rattle.httparse.specs.Grammar.{HasNoRequest}
 use Rattle.ts_request.specs.Text.{Text}
-use Rattle.ts_request.specs.Upload.{LacksUpload}
 use Rattle.ts_request.proofs.FrontMoves.{filled_ended, filled_fails, filled_known, filled_on, filled_waits}
 use Rattle.ts_request.proofs.FrontMoves.{came_last, heading_holds, passes_known}
 use Rattle.ts_request.proofs.reading.seek_once.Goals as goal
@@ -35,9 +35,9 @@ decide-requires-clause-behind g c =
 pub decide-requires-clause-fresh : goal.decide-requires-clause-fresh
 decide-requires-clause-fresh g c = (came_last c.in-Bytes.ensures.fills).0
 
-pub decide-requires-clause-lacks : goal.decide-requires-clause-lacks
-decide-requires-clause-lacks g c =
-    subst LacksUpload (sym (came_last c.in-Bytes.ensures.fills).1)
+pub decide-requires-clause-none : goal.decide-requires-clause-none
+decide-requires-clause-none g c =
+    subst HasNoRequest (sym (came_last c.in-Bytes.ensures.fills).1)
     (heading_holds g.C.Link.tells c.args.text.now
     (g.C.Link.look c.args.client.now) c.requires.heading c.requires.holds).3
 

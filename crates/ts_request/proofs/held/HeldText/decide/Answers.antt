@@ -3,11 +3,12 @@ use Rattle.std.proofs.Common.{◌≡◌, ◌<◌, ◌≤◌, length, ap, subst, 
 use Rattle.std.specs.List.{slice_range}
 use Rattle.std.specs.Vec.{with_items}
 use Rattle.std.proofs.lemmas.List.{with_items_is}
+use Rattle.httparse.specs.Grammar.{HasNoRequest}
 use Rattle.ts_wire.specs.Limits.{head_limit}
 use Rattle.ts_request.specs.Finding.{IsFound}
 use Rattle.ts_request.specs.Lines.{kept_lines}
 use Rattle.ts_request.specs.Text.{Decides, Text}
-use Rattle.ts_request.specs.Upload.{HasUpload, LacksUpload}
+use Rattle.ts_request.specs.Upload.{HasUpload}
 use Rattle.ts_request.specs.declared.finding.Found.TheVariants as F
 use Rattle.ts_request.specs.declared.stage.Stage.TheVariants as S
 use Rattle.ts_request.proofs.HeldBytes.{stripped}
@@ -19,7 +20,7 @@ returns-then-not-may_end c =
     let quiet = c.may_end.ensures c.if-not-may_end.true in
     subst (λ s. Decides now now s) (sym c.requires.heading) (
       refl,
-      quiet.lacks c.requires.lacks,
+      quiet.none c.requires.none,
       quiet.short,
     )
 
@@ -30,7 +31,7 @@ returns-in-More c =
     ap (take c.self.inside.kept) c.deref.ensures.value ∙ ap (λ (u : Text). u.front) c.self.view_is in
     subst (λ s. Decides now now s) (sym c.requires.heading) (
       refl,
-      subst LacksUpload front c.in-More.ensures.0,
+      subst HasNoRequest front c.in-More.ensures.0,
       subst (λ b. length b < head_limit) front c.in-More.ensures.1,
     )
 

@@ -6,8 +6,8 @@ use Rattle.std.proofs.lemmas.List.{drop-take, length-take}
 use Rattle.httparse.specs.Ascii.{line_feed}
 use Rattle.ts_request.specs.Lines.{AreBlank}
 use Rattle.ts_request.specs.Text.{CannotEnd, Text}
-use Rattle.ts_request.proofs.EmptyLines.{blank_lacks}
-use Rattle.ts_request.proofs.LineEnds.{still_lacks}
+use Rattle.ts_request.proofs.EmptyLines.{blank_none}
+use Rattle.ts_request.proofs.LineEnds.{still_none}
 use Rattle.ts_request.proofs.held.HeldText.may_end.Goals as goal
 
 pub returns-then-self : goal.returns-then-self
@@ -20,7 +20,7 @@ returns-then-self c none =
     subst (λ n. AreBlank (take n x.room.items)) c.if-self.true c.self.invariant.5 in
     subst (CannotEnd c.args.fresh) (ap (λ (u : Text). u.front) c.self.view_is) (record {
       short = omega (arith, long, c.if-self-eq-MAX_HEAD.false, c.self.invariant.1);
-      lacks = λ before. blank_lacks held blank;
+      none = λ before. blank_none held blank;
     })
 
 pub returns : goal.returns
@@ -39,5 +39,5 @@ returns c none =
     ap (list_any (λ b. b == line_feed)) same ∙ sym c.contains.ensures.value ∙ none in
     subst (CannotEnd c.args.fresh) (ap (λ (u : Text). u.front) c.self.view_is) (record {
       short = omega (arith, long, c.if-self-eq-MAX_HEAD.false, c.self.invariant.1);
-      lacks = still_lacks held c.args.fresh quiet;
+      none = still_none held c.args.fresh quiet;
     })
