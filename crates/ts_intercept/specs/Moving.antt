@@ -38,11 +38,16 @@ Both R (Some o) None = ⊥
 Both R (Some o) (Some p) = R o p
 
 module _ {O : Type 0} where
+  -- without an origin there is nothing to read, and never will be
+  abbrev pub EndsWithout : Option O → Got → Type 0
+  EndsWithout None answer = answer ≡ G.End
+  EndsWithout (Some o) answer = ⊤
+
   -- A read of a link that a line serves: the next piece of the answer, and nothing else. Before a head is
-  -- whole it comes too early.
+  -- whole it comes too early. Without an origin, a host that no line serves ends at once.
   abbrev pub ReadsBy : Stage → Choice O → Choice O → Got → List ℕ → Type 0
-  ReadsBy S.Undecided c d answer into = d.early ≡ true
-  ReadsBy S.HandedOn c d answer into = d.early ≡ c.early
+  ReadsBy S.Undecided c d answer into = (d.early ≡ true) × EndsWithout c.origin answer
+  ReadsBy S.HandedOn c d answer into = (d.early ≡ c.early) × EndsWithout c.origin answer
   ReadsBy (S.Served text given) c d answer into = GivesFront answer (drop given text.items) into
       × (d ≡ record c { stage = S.Served text (given + count_got answer); reads = one_more c.reads })
 

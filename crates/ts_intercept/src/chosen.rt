@@ -1,5 +1,5 @@
 //! The link to an origin, where a line of the configuration may answer in its place.
-ghost use Rattle.std.specs.Prelude.{◌≡◌, ◌<◌, false, is_some, length, true, IfOk};
+ghost use Rattle.std.specs.Prelude.{◌≡◌, ◌<◌, ◌↔◌, [], false, is_some, length, true, IfOk, IsTrue};
 ghost use Rattle.std.specs.Arc.{arc_value};
 ghost use Rattle.ts_link.specs.Link.{Reads, Writes};
 ghost use Rattle.ts_intercept.specs.Answered.{Answered};
@@ -7,7 +7,7 @@ ghost use Rattle.ts_intercept.specs.Going.{goes_more, goes_same, goes_stays, pai
 ghost use Rattle.ts_intercept.specs.Moving.{Goes, HoldsNoMore, IsStill, ReadsBy};
 ghost use Rattle.ts_intercept.specs.Seen.{inside, seen};
 ghost use Rattle.ts_intercept.specs.Standing.{IsMadeOf, IsUnused, KeepsOrigin};
-ghost use Rattle.ts_intercept.specs.Uploading.{IsOneUpload, Pairs, RefusesNone, UploadsAs, left_of};
+ghost use Rattle.ts_intercept.specs.Uploading.{IsOneUpload, Pairs, RefusesNone, UploadsAs, left_of, owed};
 
 use crate::choice::{Choice, Stage};
 use crate::gone::Gone;
@@ -79,11 +79,25 @@ impl<O: Link> Chosen<O> {
         self.choice.early
     }
 
+    /// Whether nothing is held for the origin: all that was written for it was sent.
+    pub fn is_sent(&self) -> bool
+        ensures { IsTrue result ↔ (owed self.now ≡ []) }
+    {
+        match &self.choice.stage {
+            Stage::HandedOn => {
+                self.choice.origin.is_none()
+                    || self.choice.held.as_slice().len() <= self.choice.sent
+            }
+            _ => true,
+        }
+    }
+
     /// The origin that was handed in: as it was then, where it was not handed on to.
     pub fn into_origin(self) -> Option<O>
     where
         O: Drop,
         ensures origin { result ≡ self.origin }
+        ensures there { is_some self.origin ≡ is_some self.handed.value }
         ensures answered { O.tells ≡ true → Answered O.look self }
         ensures unused { O.tells ≡ true → IsUnused (inside O.look self.handed.value) }
         ensures kept { KeepsOrigin self }

@@ -2,7 +2,7 @@
 ghost use Rattle.std.specs.Prelude.{◌≡◌, ◌+◌, ◌<◌, ◌≤◌, drop, length, true};
 ghost use Rattle.ts_link.specs.Link.{Reads};
 ghost use Rattle.ts_link.specs.LinkAnswers.{count_got};
-ghost use Rattle.ts_intercept.specs.Moving.{Both, GivesFront, Goes, ReadsBy, ReadsInside};
+ghost use Rattle.ts_intercept.specs.Moving.{Both, EndsWithout, GivesFront, Goes, ReadsBy, ReadsInside};
 ghost use Rattle.ts_intercept.specs.Seen.{inside, seen};
 ghost use Rattle.ts_intercept.specs.Standing.{IsServing, IsSound};
 
@@ -18,6 +18,7 @@ fn read_origin<O: Link>(origin: &mut Option<O>, into: &mut [u8]) -> Got
     ensures reads { ReadsInside O.tells
         (inside O.look origin.old) (inside O.look origin.new) result into.new }
     ensures goes { Both O.goes origin.old origin.new }
+    ensures without { EndsWithout origin.old result }
 {
     match origin {
         Some(link) => link.read(into),
@@ -52,6 +53,7 @@ fn read_early<O: Link>(choice: &mut Choice<O>, into: &mut [u8]) -> Got
     ensures goes { Goes O.goes choice.old choice.new }
     ensures sound { IsSound O.tells O.look choice.new }
     ensures early { choice.new.early ≡ true }
+    ensures without { EndsWithout choice.old.origin result }
 {
     choice.stage = Stage::HandedOn;
     choice.early = true;
@@ -68,6 +70,7 @@ fn read_on<O: Link>(choice: &mut Choice<O>, into: &mut [u8]) -> Got
     ensures goes { Goes O.goes choice.old choice.new }
     ensures sound { IsSound O.tells O.look choice.new }
     ensures early { choice.new.early ≡ choice.old.early }
+    ensures without { EndsWithout choice.old.origin result }
 {
     choice.reads = counted(choice.reads);
     read_origin(&mut choice.origin, into)

@@ -1,7 +1,7 @@
 //! A request through the link that chooses: what it gives, and what the origin took.
 use crate::ends::{MEMORY, link, reads, setup_of, uploads};
 use std::process::Abort;
-use ts_intercept::Chosen;
+use ts_intercept::{Chosen, named_hosts};
 use ts_link::{Got, Link, MemLink, Put};
 
 // The head of a request as it is sent.
@@ -24,8 +24,8 @@ struct Row<'a> {
     taken: &'a [u8],
 }
 
-// A link that chooses may be sent to another thread.
-fn is_sent<T: Send>(_link: &T) {}
+// A link that chooses may go to another thread.
+fn goes_to_a_thread<T: Send>(_link: &T) {}
 
 fn joined(rt: &(impl AllocGlobal + Abort), parts: &[&[u8]]) -> Vec<u8> {
     let mut whole = Vec::new(rt.alloc());
@@ -44,13 +44,15 @@ fn comes_to(rt: &(impl AllocGlobal + Abort), row: &Row) -> bool {
     let origin = link(rt, ORIGIN);
     let mut chosen = Chosen::make(rt.alloc(), Some(origin), setup).expect(rt, MEMORY);
     let put = chosen.write(REQUEST);
-    let done = uploads(&mut client, &mut chosen);
+    let waits = !chosen.is_sent();
+    let done = uploads(&mut client, &mut chosen) && chosen.is_sent();
     let given = reads(rt, &mut chosen);
     let faults = chosen.faults();
     let Some(origin) = chosen.into_origin() else {
         return false;
     };
     put == Put::Took(REQUEST.len())
+        && waits == !row.taken.is_empty()
         && done
         && given.as_slice() == expected.as_slice()
         && faults == 0
@@ -59,6 +61,7 @@ fn comes_to(rt: &(impl AllocGlobal + Abort), row: &Row) -> bool {
 
 #[test]
 fn the_first_line_of_a_host_serves_it(rt: HostRuntime) {
+    named_hosts();
     let rows = [
         Row {
             lines: b"intercept.so a echo\n",
@@ -106,7 +109,7 @@ fn an_answer_comes_in_pieces_of_4096_bytes(rt: HostRuntime) {
     let setup = setup_of(&rt, b"intercept.so a fill 5000\n", b"");
     let origin: Option<MemLink> = None;
     let mut chosen = Chosen::make(rt.alloc(), origin, setup).expect(&rt, MEMORY);
-    is_sent(&chosen);
+    goes_to_a_thread(&chosen);
     assert!(rt; chosen.write(REQUEST) == Put::Took(REQUEST.len()));
     let mut room = [0u8; 8192];
     assert!(rt; chosen.read(&mut room) == Got::Bytes(4096));

@@ -22,7 +22,7 @@ use Rattle.ts_tap.proofs.HeadEnds.{le_or_lt, occurs_in_front, occurs_last, occur
 -- ---- one head
 
 -- a head is no text without an empty line, nor a front of one
-blank_there : (head rest told : List ℕ) → EndsBlank head → told ≡ head ++ rest → LacksBlank told → ⊥
+pub blank_there : (head rest told : List ℕ) → EndsBlank head → told ≡ head ++ rest → LacksBlank told → ⊥
 blank_there head rest told ends is lacks =
     lacks (length ends.front) (subst (λ (l : List ℕ). OccursAt l blank_end (length ends.front))
     (sym (is ∙ ap (λ l. l ++ rest) ends.text_is))
@@ -54,7 +54,7 @@ same_fronts a b x y same long = (
 )
 
 -- so a text has one head, and one rest behind it
-one_head : (a b x y : List ℕ) → EndsBlank a → EndsBlank b → a ++ x ≡ b ++ y → (a ≡ b) × (x ≡ y)
+pub one_head : (a b x y : List ℕ) → EndsBlank a → EndsBlank b → a ++ x ≡ b ++ y → (a ≡ b) × (x ≡ y)
 one_head a b x y ends_a ends_b same =
     ⊎_elim
     (λ (le : length a ≤ length b). ⊎_elim
