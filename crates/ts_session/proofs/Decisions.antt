@@ -1,8 +1,8 @@
 -- What was found of a request decides what is known of it.
-use Rattle.std.proofs.Common.{◌≡◌, ℕ, ◌+◌, ◌<◌, List, [], ◌++◌, length, drop, refl, sym, ◌∙◌}
+use Rattle.std.proofs.Common.{◌≡◌, ℕ, ◌+◌, ◌++◌, drop, refl, sym, ◌∙◌}
 use Rattle.ts_wire.specs.declared.ends.RequestEnd.TheVariants as E
 use Rattle.ts_session.specs.Finding.{Decides, IsHeadFound, NeverRequest, known_request}
-use Rattle.ts_session.specs.Requests.{GivesAll, chunks, no_head, unknown}
+use Rattle.ts_session.specs.Requests.{chunks, no_head, unknown}
 use Rattle.ts_session.specs.declared.finding.FoundHead.{FoundHead}
 use Rattle.ts_session.specs.declared.request.Reading.TheVariants as R
 use Rattle.ts_session.specs.declared.request.Request.{Request}

@@ -1,35 +1,38 @@
 -- What a span comes to: each of its calls is one of a link, and at its end its client is that of the session.
-use Rattle.std.proofs.Common.{◌≡◌, ◌⊎◌, inl, inr, ℕ, ◌+◌, ◌-◌, ◌<◌, ◌≤◌, Bool, true, false, ◌||◌, List, [], ◌++◌}
+use Rattle.std.proofs.Common.{◌≡◌, inl, inr, ℕ, ◌+◌, ◌-◌, ◌<◌, ◌≤◌, Bool, true, false, ◌||◌, List, [], ◌++◌}
 use Rattle.std.proofs.Common.{length, take, drop, refl, sym, ap, subst, ⊎_elim, ◌∙◌, arith, append_assoc}
 use Rattle.std.proofs.Common.{length-append, take-append-drop}
 use Rattle.std.proofs.Common.{None}
-use Rattle.std.proofs.lemmas.Bool.{cases_lt, or_cases}
+use Rattle.std.specs.Prelude.{◌&&◌, nat_lt}
+use Rattle.std.specs.List.{slice_range}
+use Rattle.std.proofs.lemmas.Bool.{and_parts, cases_lt, eqb-true, ltb-true, or_cases}
 use Rattle.std.proofs.lemmas.List.{append-nil, length-drop, length-take-le, take_all}
 use Rattle.ts_lists.proofs.Fronts.{front_was_there, rest_by_length}
 use Rattle.httparse.specs.Grammar as grammar
 use Rattle.httparse.specs.Grammar.{print_request}
 use Rattle.ts_link.specs.Counts.{one_more}
-use Rattle.ts_link.specs.Link.{Calls, GivesMore, Lacks, Look, Reads, Writes}
-use Rattle.ts_link.specs.LinkAnswers.{count_got, got_again, got_failed, put_again, writes_after}
+use Rattle.ts_link.specs.Link.{Calls, GivesMore, Lacks, Look, Reads, TakesMore, Writes, all_of}
+use Rattle.ts_link.specs.LinkAnswers.{EndsWell, count_got, count_put, got_again, got_failed, put_again, writes_after}
 use Rattle.ts_link.specs.declared.link.Got.{Got}
 use Rattle.ts_link.specs.declared.link.Put.{Put}
 use Rattle.ts_link.specs.declared.link.Put.TheVariants as P
 use Rattle.ts_wire.specs.Heads.{BeginsWithRequest}
 use Rattle.ts_wire.specs.RequestEnds.{end_of_request}
 use Rattle.ts_wire.specs.declared.ends.RequestEnd.TheVariants as E
-use Rattle.ts_session.specs.Course.{EndsEmpty, HoldsHead, fresh_request, is_head}
-use Rattle.ts_session.specs.Course.{GoesOnBehind, IsKnown, IsPlaced, IsSound, MayGoOn, RespondsBy}
+use Rattle.ts_session.specs.Course.{EndsEmpty, HoldsHead, IsOwing, IsWithin, fresh_request, has_found, is_head}
+use Rattle.ts_session.specs.Course.{is_whole, may_go_on, request_given, request_rest, response_written, told, waiting}
+use Rattle.ts_session.specs.Course.{IsKnown, IsPlaced, IsSound, MayGoOn, RespondsBy}
 use Rattle.ts_session.specs.Course.{StandsBy, fresh_response, given_before, given_on, is_dropped, left_by}
-use Rattle.ts_session.specs.Course.{request_through, since, span_look, taken_before, written_by}
+use Rattle.ts_session.specs.Course.{since, span_look, taken_before, written_by}
 use Rattle.ts_session.specs.Kept.{IsKept, close_line}
 use Rattle.ts_session.specs.Limits.{most_places}
-use Rattle.ts_session.specs.Lines.{IsCut}
+use Rattle.ts_session.specs.Lines.{HasEnded, IsCut, may_drop_at}
 use Rattle.ts_session.specs.Finding.{Decides}
 use Rattle.ts_session.specs.Reading.{IsUnread, MovesOn, MovesTo, Rests, Shows}
 use Rattle.ts_session.specs.Requests.{IsBodyBy, IsRequest, IsRequestWith}
 use Rattle.ts_session.specs.Session.{GoesBehind, IsNew, IsNext, IsSent, IsSession, MayContinue}
 use Rattle.ts_session.specs.Session.{PollsSpan}
-use Rattle.ts_session.specs.Writing.{LeavesAll, WritesOn}
+use Rattle.ts_session.specs.Writing.{LeavesAll, LeavesBy, LeavesClient, WritesOn}
 use Rattle.ts_session.specs.declared.course.Course.{Course}
 use Rattle.ts_session.specs.declared.lines.Lines.{Lines}
 use Rattle.ts_session.specs.declared.request.Reading.{Reading}
@@ -40,30 +43,69 @@ use Rattle.ts_session.specs.declared.response.Sending.{Sending}
 use Rattle.ts_session.specs.declared.response.Sending.TheVariants as S
 use Rattle.ts_session.proofs.FoundHeads.{begins_more, begins_some, lacks_none}
 use Rattle.ts_session.proofs.Giving.{decided}
+use Rattle.ts_session.proofs.HeadWalks.{front_open, inside_going, may_begins}
+use Rattle.ts_session.proofs.HeldLines.{slice_front}
 use Rattle.ts_session.proofs.LineFronts.{new_shows}
 use Rattle.ts_session.proofs.LinkCalls.{agains_none}
 use Rattle.ts_session.proofs.Parts.{given_is, since_is}
 use Rattle.ts_session.proofs.Writes.{request_left, request_stays}
 
--- ---- a read
+-- ---- the rule
 
--- where the line was dropped, the request is left as it is
-asks_stay : (x : Sending) (r s : Request) (place : ℕ) → MayGoOn x r place → Rests r s → x ≡ S.Dropped
+-- the request was given whole, its client lets the connection go on, and the session may carry more requests
+pub record GoesOnBehind (r : Request) (place : ℕ) : Type 0 where
+  pub whole : r.reading ≡ R.Known 0
+  pub persists_is : r.persists ≡ true
+  pub within : place < most_places
+
+whole_is : (x : Reading) → is_whole x ≡ true → x ≡ R.Known 0
+whole_is R.Head is = absurd (cc)
+whole_is (R.Known n) is = ap R.Known (eqb-true n 0 is)
+whole_is R.Open is = absurd (cc)
+
+goes_on_behind : (r : Request) (place : ℕ) → may_go_on r place ≡ true → GoesOnBehind r place
+goes_on_behind r place may =
+    let a = and_parts (is_whole r.reading) (r.persists && nat_lt place most_places) may in
+    let b = and_parts r.persists (nat_lt place most_places) a.1 in
+    record {
+      whole = whole_is r.reading a.0;
+      persists_is = b.0;
+      within = ltb-true place most_places b.1;
+    }
+
+-- where a line was found that may be dropped, the request is left as it is
+request_rests : (x : Sending) (r s : Request) (place : ℕ) → MayGoOn x r place → Rests r s → has_found x ≡ true
     → s ≡ r
-asks_stay S.Head r s place rule rests dropped = absurd (cc)
-asks_stay S.Passing r s place rule rests dropped = absurd (cc)
-asks_stay S.Dropped r s place rule rests dropped = rests rule.whole
+request_rests x r s place rule rests found = rests (goes_on_behind r place (rule found)).whole
 
 rule_stays : (x : Sending) (r s : Request) (place : ℕ) → MayGoOn x r place → Rests r s → MayGoOn x s place
-rule_stays S.Head r s place rule rests = tt
-rule_stays S.Passing r s place rule rests = tt
-rule_stays S.Dropped r s place rule rests =
-    subst (λ (t : Request). GoesOnBehind t place) (sym (rests rule.whole)) rule
+rule_stays x r s place rule rests found =
+    subst (λ (t : Request). may_go_on t place ≡ true) (sym (request_rests x r s place rule rests found))
+    (rule found)
+
+-- ---- bytes that are told
+
+told_none : (tells : Bool) (bytes : List ℕ) → bytes ≡ [] → told tells bytes ≡ []
+told_none true bytes none = none
+told_none false bytes none = refl
+
+told_same : (tells : Bool) (a b : List ℕ) → (tells ≡ true → a ≡ b) → told tells a ≡ told tells b
+told_same true a b same = same refl
+told_same false a b same = refl
+
+-- ---- a read
 
 responds_stay : (x : Sending) (lines : Lines) (a b : Bool) (start cut t u : List ℕ) → u ≡ t
-    → (x ≡ S.Dropped → b ≡ a) → RespondsBy x lines a start cut t → RespondsBy x lines b start cut u
+    → (has_found x ≡ true → b ≡ a) → RespondsBy x lines a start cut t → RespondsBy x lines b start cut u
 responds_stay S.Head lines a b start cut t u same asks (sent, at, shows) = (sent, same ∙ at, shows)
-responds_stay S.Passing lines a b start cut t u same asks (sent, at) = (sent, same ∙ at)
+responds_stay S.Passing lines a b start cut t u same asks (sent, at, ended) = (sent, same ∙ at, ended)
+responds_stay (S.Line count) lines a b start cut t u same asks (sent, at, (shows, drops)) =
+    (sent, same ∙ at, (shows, subst (λ k. may_drop_at lines k ≡ true) (sym (asks refl)) drops))
+responds_stay (S.Owed from to) lines a b start cut t u same asks (sent, at, owing) = (
+  sent,
+  same ∙ at,
+  subst (λ k. IsOwing k lines to (sent ++ slice_range close_line from to)) (sym (asks refl)) owing,
+)
 responds_stay S.Dropped lines a b start cut t u same asks h =
     subst (λ k. IsCut k start cut u) (sym (asks refl)) (subst (λ k. IsCut a start cut k) (sym same) h)
 
@@ -79,15 +121,16 @@ module _ {C : Type 0} (look : C → Look) (tells : Bool) (s : Course C) (c : C) 
     response = λ tell. responds_stay s.response.sending s.response.lines s.request.asks_head r.asks_head
         (taken_before look s) (look s.cut.value).taken (look s.client).taken (look c).taken
         (moved.moves.told tell).taken
-        (λ dropped. ap (λ (x : Request). x.asks_head)
-        (asks_stay s.response.sending s.request r s.place sound.rule moved.moves.rests dropped))
+        (λ found. ap (λ (x : Request). x.asks_head)
+        (request_rests s.response.sending s.request r s.place sound.rule moved.moves.rests found))
         (sound.response tell);
+    within = sound.within;
     rule = rule_stays s.response.sending s.request r s.place sound.rule moved.moves.rests;
     begun = moved.moves.calls.before ∙ sound.begun;
   }
 
-  pub moved_calls : Calls (span_look look s)
-      (span_look look (record s { client = c; request = r; reads = reads })) failed waited
+  pub moved_calls : Calls (span_look look tells s)
+      (span_look look tells (record s { client = c; request = r; reads = reads })) failed waited
   moved_calls = record {
     source = ap (since (given_before look s)) moved.moves.calls.source;
     name = moved.moves.calls.name;
@@ -100,23 +143,25 @@ module _ {C : Type 0} (look : C → Look) (tells : Bool) (s : Course C) (c : C) 
     agains = agains_none waited;
   }
 
-  pub moved_told : tells ≡ true → GivesMore (span_look look s)
-      (span_look look (record s { client = c; request = r; reads = reads })) more
+  pub moved_told : tells ≡ true → GivesMore (span_look look tells s)
+      (span_look look tells (record s { client = c; request = r; reads = reads })) more
   moved_told tell =
       let g = moved.moves.told tell in
-      record {
+      subst (λ b. GivesMore (span_look look b s)
+      (span_look look b (record s { client = c; request = r; reads = reads })) more) (sym tell)
+      (record {
         before = g.before;
         replaced = g.replaced;
         moved = g.moved;
         given = g.given;
         taken = ap (written_by s.response.sending (taken_before look s) (look s.cut.value).taken) g.taken;
-      }
+      })
 
 pub reads_span : {C : Type 0} (look : C → Look) (tells : Bool) (s : Course C) (c : C) (r : Request) (reads : ℕ)
     (answer : Got) (into : List ℕ) → IsSound look tells s
     → Shows tells s.request r (look s.client) (look c) answer into → reads ≡ one_more s.reads
-    → Reads tells (span_look look s) (span_look look (record s { client = c; request = r; reads = reads }))
-    answer into
+    → Reads tells (span_look look tells s)
+    (span_look look tells (record s { client = c; request = r; reads = reads })) answer into
 reads_span look tells s c r reads answer into sound shows counted = record {
   fills = shows.fills;
   once = record { reads = counted; writes = refl };
@@ -125,7 +170,8 @@ reads_span look tells s c r reads answer into sound shows counted = record {
   sure = λ sure. absurd sure;
   told = moved_told look tells s c r reads (got_failed answer) (got_again answer)
       (take (count_got answer) into) sound shows.moves;
-  ends = shows.ends;
+  ends = λ tell. subst (λ b. EndsWell answer (told b (left_by r.reading (r.held ++ (look c).left)))) (sym tell)
+      (shows.ends tell);
 }
 
 -- ---- a poll
@@ -133,7 +179,8 @@ reads_span look tells s c r reads answer into sound shows counted = record {
 pub polls_span : {C : Type 0} (look : C → Look) (tells : Bool) (s : Course C) (c : C) (r : Request)
     (failed waited : Bool) → IsSound look tells s
     → MovesOn tells s.request r (look s.client) (look c) failed waited []
-    → PollsSpan tells (span_look look s) (span_look look (record s { client = c; request = r })) failed waited
+    → PollsSpan tells (span_look look tells s) (span_look look tells (record s { client = c; request = r }))
+    failed waited
 polls_span look tells s c r failed waited sound moves = record {
   calls = moved_calls look tells s c r s.reads failed waited [] sound moves;
   reads = refl;
@@ -145,44 +192,73 @@ polls_span look tells s c r failed waited sound moves = record {
 
 module _ {C : Type 0} (look : C → Look) (tells may : Bool) (s : Course C) (c : C) (p : Response)
     (k : Course C) (writes : ℕ) (answer : Put) (piece : List ℕ) (sound : IsSound look tells s)
-    (goes_on : may ≡ true → GoesOnBehind s.request s.place)
+    (may_is : may ≡ may_go_on s.request s.place)
     (w : WritesOn tells may s.request.asks_head s.response p (look s.cut.value) (look k.cut.value)
     (look s.client) (look c) answer piece) where
   abbrev written : Course C
   written = record s { client = c; response = p; cut = k.cut; writes = writes }
 
-  rule_on : (x : Sending) → x ≡ p.sending → MayGoOn x s.request s.place
-  rule_on S.Head is = tt
-  rule_on S.Passing is = tt
-  rule_on S.Dropped is =
+  rule_on : MayGoOn p.sending s.request s.place
+  rule_on found =
       ⊎_elim
-      (λ (was : is_dropped s.response.sending ≡ true). rule_was s.response.sending was sound.rule)
-      (λ (so : may ≡ true). goes_on so)
-      (or_cases (is_dropped s.response.sending) may (w.drops (ap is_dropped (sym is))))
-    where
-      rule_was : (y : Sending) → is_dropped y ≡ true → MayGoOn y s.request s.place
-          → GoesOnBehind s.request s.place
-      rule_was S.Head was rule = absurd (cc)
-      rule_was S.Passing was rule = absurd (cc)
-      rule_was S.Dropped was rule = rule
+      (λ (was : has_found s.response.sending ≡ true). sound.rule was)
+      (λ (so : may ≡ true). sym may_is ∙ so)
+      (or_cases (has_found s.response.sending) may (w.found found))
 
-  pub written_sound : IsSound look tells written
-  written_sound = record {
+  pub written_sound : IsWithin p.sending → IsSound look tells written
+  written_sound within = record {
     request = request_stays tells (given_before look s) s.request (look s.client) (look c) w.leaves.given
         w.leaves.left sound.request;
     response = (w.on (taken_before look s) sound.response).holds;
-    rule = rule_on p.sending refl;
+    within = within;
+    rule = rule_on;
     begun = w.leaves.before ∙ sound.begun;
   }
 
-  lacks_span : (a : Put) → LeavesAll a s.response p (look s.cut.value) (look k.cut.value) (look s.client) (look c)
-      → writes ≡ writes_after a s.writes → Lacks a (span_look look s) (span_look look written)
-  lacks_span (P.Took n) all counted = tt
-  lacks_span P.Again all counted = tt
-  lacks_span P.Failed all counted = tt
-  lacks_span P.NoMemory (same_p, same_cut, same_l) counted =
-      λ i. record (request_through (given_before look s) s.request (same_l i)) {
-        taken = written_by (same_p i).sending (taken_before look s) (same_cut i).taken (same_l i).taken;
+  -- where some of what was owed may be out, what is seen of the client's bytes is as it was
+  paid_lacks : has_found s.response.sending ≡ true → LeavesBy tells (look s.client) (look c) false false
+      → (tells ≡ true → response_written look written ≡ response_written look s ++ []) → writes ≡ s.writes
+      → span_look look tells written ≡ span_look look tells s
+  paid_lacks found leaves same counted =
+      let whole = (goes_on_behind s.request s.place (sound.rule found)).whole in
+      let given : told tells (request_given look written) ≡ told tells (request_given look s) =
+      told_same tells (request_given look written) (request_given look s)
+      (λ tell. ap (λ g. since (given_before look s) (given_on s.request.held g)) (leaves.given tell)) in
+      let left : told tells (request_rest look written) ≡ told tells (request_rest look s) =
+      told_same tells (request_rest look written) (request_rest look s)
+      (λ tell. ap (λ x. left_by x (s.request.held ++ (look c).left)) whole
+      ∙ ap (λ x. left_by x (s.request.held ++ (look s.client).left)) (sym whole)) in
+      let taken : told tells (response_written look written) ≡ told tells (response_written look s) =
+      told_same tells (response_written look written) (response_written look s)
+      (λ tell. same tell ∙ append-nil (response_written look s)) in
+      λ i. record {
+        given = given i;
+        left = left i;
+        taken = taken i;
+        source = since (given_before look s) (leaves.source i);
+        name = leaves.name i;
+        reads = s.reads;
+        writes = counted i;
+        faults = leaves.faults i;
+        waits = leaves.waits i;
+        agains = None;
+        plan = None;
+        carried = leaves.carried i;
+        uploaded = leaves.uploaded i;
+        before = (
+          (look s.begun.value).before.0 ++ given_before look s,
+          (look s.begun.value).before.1 ++ taken_before look s,
+        );
+      }
+
+  all_lacks : p ≡ s.response → look k.cut.value ≡ look s.cut.value → look c ≡ look s.client
+      → writes ≡ s.writes → span_look look tells written ≡ span_look look tells s
+  all_lacks same_p same_cut same_l counted =
+      λ i. record (same_l i) {
+        given = told tells (since (given_before look s) (given_on s.request.held (same_l i).given));
+        left = told tells (left_by s.request.reading (s.request.held ++ (same_l i).left));
+        taken = told tells (written_by (same_p i).sending (taken_before look s) (same_cut i).taken
+            (same_l i).taken);
         source = since (given_before look s) (same_l i).source;
         reads = s.reads;
         writes = counted i;
@@ -194,8 +270,23 @@ module _ {C : Type 0} (look : C → Look) (tells may : Bool) (s : Course C) (c :
         );
       }
 
+  lacks_span : (a : Put) → LeavesAll a s.response p (look s.cut.value) (look k.cut.value) (look s.client) (look c)
+      → LeavesClient tells (look s.client) (look c) a
+      → (tells ≡ true → response_written look written ≡ response_written look s ++ take (count_put a) piece)
+      → writes ≡ writes_after a s.writes → Lacks a (span_look look tells s) (span_look look tells written)
+  lacks_span (P.Took n) all leaves same counted = tt
+  lacks_span P.Again all leaves same counted = tt
+  lacks_span P.Failed all leaves same counted = tt
+  lacks_span P.NoMemory (inl (same_p, same_cut, same_l)) leaves same counted =
+      all_lacks same_p same_cut same_l counted
+  lacks_span P.NoMemory (inr found) leaves same counted = paid_lacks found leaves same counted
+
+  wrote : tells ≡ true
+      → response_written look written ≡ response_written look s ++ take (count_put answer) piece
+  wrote = (w.on (taken_before look s) sound.response).written
+
   pub writes_span : writes ≡ writes_after answer s.writes
-      → Writes tells (span_look look s) (span_look look written) answer piece
+      → Writes tells (span_look look tells s) (span_look look tells written) answer piece
   writes_span counted = record {
     takes = w.takes;
     once = record { reads = refl; writes = counted };
@@ -211,14 +302,15 @@ module _ {C : Type 0} (look : C → Look) (tells may : Bool) (s : Course C) (c :
       agains = agains_none (put_again answer);
     };
     sure = λ sure. absurd sure;
-    lacks = lacks_span answer w.lacks counted;
-    told = λ tell. record {
-      taken = (w.on (taken_before look s) sound.response).written tell;
-      within = λ within. tt;
-      given = ap (λ g. since (given_before look s) (given_on s.request.held g)) (w.leaves.given tell);
-      left = request_left tells (given_before look s) s.request (look s.client) (look c) w.leaves.given
-          w.leaves.left sound.request tell;
-    };
+    lacks = lacks_span answer w.lacks w.leaves wrote counted;
+    told = λ tell. subst (λ b. TakesMore (span_look look b s) (span_look look b written)
+        (take (count_put answer) piece)) (sym tell) (record {
+          taken = wrote tell;
+          within = λ within. tt;
+          given = ap (λ g. since (given_before look s) (given_on s.request.held g)) (w.leaves.given tell);
+          left = request_left tells (given_before look s) s.request (look s.client) (look c) w.leaves.given
+              w.leaves.left sound.request tell;
+        });
   }
 
 -- ---- the request at its end
@@ -266,19 +358,54 @@ next_request (R.Known n) r given left k =
 
 -- ---- the response at its end
 
--- what the client took of it: what is kept of what was written, or all of it
+-- What the client took of it: what is kept of what was written, or all of it but for what waits. Nothing waits where
+-- the head has ended.
 pub record IsTaken (x : Sending) (start cut taken : List ℕ) : Type 0 where
   pub sent : List ℕ
-  pub is_sent : IsSent (is_dropped x) (written_by x start cut taken) sent
+  pub is_sent : IsSent (is_dropped x) (waiting x) (written_by x start cut taken) sent
   pub took : taken ≡ start ++ sent
+  pub of_line : (from : ℕ) × (to : ℕ) × (waiting x ≡ slice_range close_line from to)
+  pub within_head : HasEnded (written_by x start cut taken) → waiting x ≡ []
 
-taken_by : (x : Sending) (lines : Lines) (asks : Bool) (start cut taken : List ℕ)
+plain_taken : (start taken sent : List ℕ) → taken ≡ start ++ sent → since start taken ≡ sent ++ []
+plain_taken start taken sent at = since_is start sent taken at ∙ sym (append-nil sent)
+
+taken_by : (x : Sending) (lines : Lines) (asks : Bool) (start cut taken : List ℕ) → IsWithin x
     → RespondsBy x lines asks start cut taken → IsTaken x start cut taken
-taken_by S.Head lines asks start cut taken (sent, at, shows) =
-    record { sent = sent; is_sent = sym (since_is start sent taken at); took = at }
-taken_by S.Passing lines asks start cut taken (sent, at) =
-    record { sent = sent; is_sent = sym (since_is start sent taken at); took = at }
-taken_by S.Dropped lines asks start cut taken c = record {
+taken_by S.Head lines asks start cut taken within (sent, at, shows) = record {
+  sent = sent;
+  is_sent = plain_taken start taken sent at;
+  took = at;
+  of_line = (0, 0, refl);
+  within_head = λ e. refl;
+}
+taken_by S.Passing lines asks start cut taken within (sent, at, ended) = record {
+  sent = sent;
+  is_sent = plain_taken start taken sent at;
+  took = at;
+  of_line = (0, 0, refl);
+  within_head = λ e. refl;
+}
+taken_by (S.Line count) lines asks start cut taken within (sent, at, (shows, drops)) = record {
+  sent = sent;
+  is_sent = ap (λ t. t ++ take count close_line) (since_is start sent taken at);
+  took = at;
+  of_line = (0, count, sym (slice_front count));
+  within_head = λ e. absurd (inside_going asks sent (take count close_line) (may_begins asks sent lines shows drops)
+      (front_open count within.1)
+      (subst (λ t. HasEnded (t ++ take count close_line)) (since_is start sent taken at) e));
+}
+taken_by (S.Owed from to) lines asks start cut taken within (sent, at, owing) = record {
+  sent = sent;
+  is_sent = ap (λ t. t ++ slice_range close_line from to) (since_is start sent taken at);
+  took = at;
+  of_line = (from, to, refl);
+  within_head = λ e. absurd (inside_going asks owing.before (take to close_line) owing.begins
+      (front_open to within.1)
+      (subst HasEnded (ap (λ t. t ++ slice_range close_line from to) (since_is start sent taken at)
+      ∙ owing.written_is) e));
+}
+taken_by S.Dropped lines asks start cut taken within c = record {
   sent = c.lines ++ c.behind;
   is_sent = record {
     told = c.told;
@@ -290,19 +417,21 @@ taken_by S.Dropped lines asks start cut taken c = record {
     kept_is = refl;
   };
   took = c.taken_is ∙ ap (λ t. t ++ c.behind) c.cut_is ∙ append_assoc start c.lines c.behind;
+  of_line = (0, 0, refl);
+  within_head = λ e. refl;
 }
+
+dropped_is : (x : Sending) → is_dropped x ≡ true → x ≡ S.Dropped
+dropped_is S.Head was = absurd (cc)
+dropped_is (S.Line count) was = absurd (cc)
+dropped_is (S.Owed from to) was = absurd (cc)
+dropped_is S.Passing was = absurd (cc)
+dropped_is S.Dropped was = refl
 
 -- the rule holds where the line was dropped
 rule_dropped : (x : Sending) (r : Request) (place : ℕ) → is_dropped x ≡ true → MayGoOn x r place
     → GoesOnBehind r place
-rule_dropped S.Head r place was rule = absurd (cc)
-rule_dropped S.Passing r place was rule = absurd (cc)
-rule_dropped S.Dropped r place was rule = rule
-
-dropped_is : (x : Sending) → is_dropped x ≡ true → x ≡ S.Dropped
-dropped_is S.Head was = absurd (cc)
-dropped_is S.Passing was = absurd (cc)
-dropped_is S.Dropped was = refl
+rule_dropped x r place was rule = goes_on_behind r place (rule (ap has_found (dropped_is x was)))
 
 -- ---- the session
 
@@ -311,36 +440,55 @@ module _ {C : Type 0} (look : C → Look) (tells : Bool) (s : Course C) (sound :
   pub placed : IsPlaced (given_before look s) s.request (look s.client)
   placed = sound.request.link tell
 
-  given_now : (span_look look s).given ≡ placed.given
+  pub given_now : request_given look s ≡ placed.given
   given_now = given_is (given_before look s) placed.given s.request.held (look s.client).given placed.placed
 
   taken_now : IsTaken s.response.sending (taken_before look s) (look s.cut.value).taken (look s.client).taken
   taken_now = taken_by s.response.sending s.response.lines s.request.asks_head (taken_before look s)
-      (look s.cut.value).taken (look s.client).taken (sound.response tell)
+      (look s.cut.value).taken (look s.client).taken sound.within (sound.response tell)
 
   took_now : (look s.client).before.1 ++ (look s.client).taken
-      ≡ (span_look look s).before.1 ++ taken_now.sent
+      ≡ (span_look look tells s).before.1 ++ taken_now.sent
   took_now =
       (λ i. (sound.begun i).1 ++ taken_now.took i)
       ∙ sym (append_assoc (look s.begun.value).before.1 (taken_before look s) taken_now.sent)
 
-  pub is_session : IsSession (span_look look s) (is_dropped s.response.sending) (look s.client)
-  is_session = record {
-    bytes = placed.given ++ (s.request.held ++ (look s.client).left);
-    gave =
-        (λ i. (sound.begun i).0 ++ (placed.placed i ++ (look s.client).left))
-        ∙ ap (λ l. (look s.begun.value).before.0 ++ l)
-        (append_assoc (given_before look s) (placed.given ++ s.request.held) (look s.client).left
-        ∙ ap (λ l. given_before look s ++ l) (append_assoc placed.given s.request.held (look s.client).left))
-        ∙ sym (append_assoc (look s.begun.value).before.0 (given_before look s)
-        (placed.given ++ (s.request.held ++ (look s.client).left)));
-    request = subst (λ g. IsNext (placed.given ++ (s.request.held ++ (look s.client).left))
-        (g ++ left_by s.request.reading (s.request.held ++ (look s.client).left))) (sym given_now)
-        (next_request s.request.reading s.request placed.given (look s.client).left placed.stands);
-    sent = taken_now.sent;
-    is_sent = taken_now.is_sent;
-    took = took_now;
-  }
+  pub is_session : IsSession (span_look look tells s) (is_dropped s.response.sending)
+      (waiting s.response.sending) (look s.client)
+  is_session = subst (λ b. IsSession (span_look look b s) (is_dropped s.response.sending)
+      (waiting s.response.sending) (look s.client)) (sym tell) (record {
+        bytes = placed.given ++ (s.request.held ++ (look s.client).left);
+        gave =
+            (λ i. (sound.begun i).0 ++ (placed.placed i ++ (look s.client).left))
+            ∙ ap (λ l. (look s.begun.value).before.0 ++ l)
+            (append_assoc (given_before look s) (placed.given ++ s.request.held) (look s.client).left
+            ∙ ap (λ l. given_before look s ++ l) (append_assoc placed.given s.request.held (look s.client).left))
+            ∙ sym (append_assoc (look s.begun.value).before.0 (given_before look s)
+            (placed.given ++ (s.request.held ++ (look s.client).left)));
+        request = subst (λ g. IsNext (placed.given ++ (s.request.held ++ (look s.client).left))
+            (g ++ left_by s.request.reading (s.request.held ++ (look s.client).left))) (sym given_now)
+            (next_request s.request.reading s.request placed.given (look s.client).left placed.stands);
+        sent = taken_now.sent;
+        is_sent = taken_now.is_sent;
+        took = took_now;
+        of_line = taken_now.of_line;
+        within_head = taken_now.within_head;
+      })
+
+  -- its source begins with its request, or is it
+  pub in_source : all_of (look s.client) ≡ (look s.client).source
+      → IsNext (span_look look tells s).source (all_of (span_look look tells s))
+  in_source known =
+      let bytes : List ℕ = placed.given ++ (s.request.held ++ (look s.client).left) in
+      let is : since (given_before look s) (look s.client).source ≡ bytes =
+      since_is (given_before look s) bytes (look s.client).source
+      (sym known ∙ ap (λ g. g ++ (look s.client).left) placed.placed
+      ∙ append_assoc (given_before look s) (placed.given ++ s.request.held) (look s.client).left
+      ∙ ap (λ t. given_before look s ++ t) (append_assoc placed.given s.request.held (look s.client).left)) in
+      subst (λ b. IsNext (span_look look b s).source (all_of (span_look look b s))) (sym tell)
+      (subst (λ t. IsNext t (request_given look s ++ request_rest look s)) (sym is)
+      (subst (λ g. IsNext bytes (g ++ left_by s.request.reading (s.request.held ++ (look s.client).left)))
+      (sym given_now) (next_request s.request.reading s.request placed.given (look s.client).left placed.stands)))
 
   -- ---- the next request
 
@@ -362,12 +510,12 @@ module _ {C : Type 0} (look : C → Look) (tells : Bool) (s : Course C) (sound :
         (look s.cut.value).taken (look s.client).taken) (dropped_is s.response.sending dropped)
         (sound.response tell)
 
-    pub may_continue : MayContinue (span_look look s) s.place
+    pub may_continue : MayContinue (span_look look tells s) s.place
     may_continue =
         let k = known_whole in
         let c = cut_now in
         let rule = rule_dropped s.response.sending s.request s.place dropped sound.rule in
-        record {
+        subst (λ b. MayContinue (span_look look b s) s.place) (sym tell) (record {
           head = k.head;
           request = subst (IsRequestWith k.head) (sym given_now)
               (request_with (placed.given ++ s.request.held) k.rest placed.given s.request.held k.head k.size
@@ -383,7 +531,7 @@ module _ {C : Type 0} (look : C → Look) (tells : Bool) (s : Course C) (sound :
               (look s.client).taken) (dropped_is s.response.sending dropped)
               ∙ (λ i. since_is (taken_before look s) c.lines (look s.cut.value).taken c.cut_is i
               ++ (close_line ++ since_is (look s.cut.value).taken c.behind (look s.client).taken c.taken_is i));
-        }
+        })
 
     -- what came before the next request
     pub before_next : take (length (look s.client).given - length s.request.held) (look s.client).given
@@ -392,24 +540,26 @@ module _ {C : Type 0} (look : C → Look) (tells : Bool) (s : Course C) (sound :
         rest_by_length (look s.client).given (given_before look s ++ placed.given) s.request.held
         (placed.placed ∙ sym (append_assoc (given_before look s) placed.given s.request.held))
 
-    kept_now : IsKept (span_look look s).taken taken_now.sent
-    kept_now = subst (λ b. IsSent b (span_look look s).taken taken_now.sent) dropped taken_now.is_sent
+    kept_now : IsKept (response_written look s) taken_now.sent
+    kept_now =
+        subst (λ b. IsSent b (waiting s.response.sending) (response_written look s) taken_now.sent) dropped
+        taken_now.is_sent
 
     pub goes_behind : (t : Course C) → t.client ≡ s.client → t.begun.value ≡ s.client
         → t.surplus ≡ length s.request.held → t.request.held ≡ s.request.held → t.response ≡ fresh_response
-        → GoesBehind (span_look look s) (span_look look t)
+        → GoesBehind (span_look look tells s) (span_look look tells t)
     goes_behind t client begun surplus held response =
         let l : look t.begun.value ≡ look s.client = ap look begun in
         let m : look t.client ≡ look s.client = ap look client in
         let before : given_before look t ≡ given_before look s ++ placed.given =
         (λ i. take (length (l i).given - surplus i) (l i).given) ∙ before_next in
-        record {
+        subst (λ b. GoesBehind (span_look look b s) (span_look look b t)) (sym tell) (record {
           request = subst IsRequest (sym given_now) request_whole;
           gave =
               (λ i. (l i).before.0 ++ before i)
               ∙ ap (λ (b : List ℕ × List ℕ). b.0 ++ (given_before look s ++ placed.given)) sound.begun
               ∙ sym (append_assoc (look s.begun.value).before.0 (given_before look s) placed.given)
-              ∙ ap (λ g. (span_look look s).before.0 ++ g) (sym given_now);
+              ∙ ap (λ g. (span_look look tells s).before.0 ++ g) (sym given_now);
           sent = taken_now.sent;
           is_sent = kept_now;
           took = (λ i. (l i).before.1 ++ (l i).taken) ∙ took_now;
@@ -421,7 +571,7 @@ module _ {C : Type 0} (look : C → Look) (tells : Bool) (s : Course C) (sound :
               (λ i. written_by (response i).sending (l i).taken (look t.cut.value).taken (m i).taken)
               ∙ since_is (look s.client).taken [] (look s.client).taken (sym (append-nil (look s.client).taken));
           name = ap (λ (k : Look). k.name) m;
-        }
+        })
 
 -- ---- the spans that begin
 
@@ -458,7 +608,9 @@ module _ {C : Type 0} (look : C → Look) (tells : Bool) (t : Course C) (client 
           });
     };
     response = λ tell. fresh_responds;
-    rule = subst (λ (p : Response). MayGoOn p.sending t.request t.place) (sym response_is) tt;
+    within = subst (λ (p : Response). IsWithin p.sending) (sym response_is) tt;
+    rule = subst (λ (p : Response). MayGoOn p.sending t.request t.place) (sym response_is)
+        (λ found. absurd (cc));
     begun = ap (λ (k : C). (look k).before) (client_is ∙ sym begun_is);
   }
 
@@ -480,7 +632,7 @@ module _ {C : Type 0} (look : C → Look) (tells : Bool) (t : Course C) (client 
       (subst (λ (r : Request). StandsBy r.reading r [] (look client).left) (sym request_is) refl)
       (λ before at. subst (λ (r : Request). EndsEmpty r.reading (look client)) (sym request_is) tt)
 
-  pub first_new : t.place ≡ 1 → t.reads ≡ 0 → t.writes ≡ 0 → IsNew look client t
+  pub first_new : t.place ≡ 1 → t.reads ≡ 0 → t.writes ≡ 0 → IsNew look tells client t
   first_new place reads writes = record {
     client_is = client_is;
     request_is = request_is;
@@ -490,13 +642,13 @@ module _ {C : Type 0} (look : C → Look) (tells : Bool) (t : Course C) (client 
     no_writes = writes;
     gave = λ i. (look (begun_is i)).before.0 ++ given_first i;
     took = λ i. (look (begun_is i)).before.1 ++ (look (begun_is i)).taken;
-    no_given =
-        (λ i. since (given_first i) (given_on (request_is i).held (look (client_is i)).given))
-        ∙ given_is (look client).given [] [] (look client).given (sym (append-nil (look client).given));
-    no_taken =
-        (λ i. written_by (response_is i).sending (look (begun_is i)).taken (look t.cut.value).taken
+    no_given = told_none tells (request_given look t)
+        ((λ i. since (given_first i) (given_on (request_is i).held (look (client_is i)).given))
+        ∙ given_is (look client).given [] [] (look client).given (sym (append-nil (look client).given)));
+    no_taken = told_none tells (response_written look t)
+        ((λ i. written_by (response_is i).sending (look (begun_is i)).taken (look t.cut.value).taken
         (look (client_is i)).taken)
-        ∙ since_is (look client).taken [] (look client).taken (sym (append-nil (look client).taken));
+        ∙ since_is (look client).taken [] (look client).taken (sym (append-nil (look client).taken)));
   }
 
 -- and one behind another

@@ -1,23 +1,20 @@
 -- What reads of a client do to the request that is shown of it.
 use Rattle.std.proofs.Common.{◌≡◌, ◌⊎◌, inl, inr, cond, ℕ, ◌+◌, ◌-◌, ◌<◌, ◌≤◌, Bool, true, false, List, [], ◌++◌}
 use Rattle.std.proofs.Common.{length, take, drop, refl, sym, ap, subst, ◌∙◌, arith, append_assoc, length-append}
-use Rattle.std.proofs.lemmas.List.{append-nil, length-take, nil_from_length, take-append-drop}
+use Rattle.std.proofs.lemmas.List.{append-nil, length-take, nil_from_length, take-append-drop, take_at}
 use Rattle.ts_lists.proofs.Fronts.{take_past}
-use Rattle.httparse.specs.Grammar as grammar
-use Rattle.httparse.specs.Grammar.{print_request}
 use Rattle.ts_link.specs.Link.{Calls, GivesMore, Look, MayReplace}
 use Rattle.ts_link.specs.LinkAnswers.{EndsWell, FillsSome, count_got, got_again, got_failed}
 use Rattle.ts_link.specs.declared.link.Got.{Got}
 use Rattle.ts_link.specs.declared.link.Got.TheVariants as G
 use Rattle.ts_wire.specs.Heads.{BeginsWithRequest, LacksRequest}
 use Rattle.ts_wire.specs.Limits.{head_limit}
-use Rattle.ts_session.specs.Course.{EndsEmpty, HoldsHead, HoldsRequest, IsKnown, IsPlaced, StandsBy, given_on}
+use Rattle.ts_session.specs.Course.{EndsEmpty, HoldsHead, IsKnown, IsPlaced, StandsBy, given_on}
 use Rattle.ts_session.specs.Course.{is_head, left_by, request_through, since}
-use Rattle.ts_session.specs.Finding.{Decides, known_request}
-use Rattle.ts_session.specs.Held.{FillsFrom, GivesFront, GivesPart, ReadsFront}
-use Rattle.ts_session.specs.Reading.{Moves, MovesOn, MovesTo, Rests, Shows}
+use Rattle.ts_session.specs.Finding.{Decides}
+use Rattle.ts_session.specs.Held.{FillsFrom, GivesFront, GivesPart, ReadsFront, before_last}
+use Rattle.ts_session.specs.Reading.{MovesOn, Rests, Shows}
 use Rattle.ts_session.specs.Requests.{GivesAll, no_head}
-use Rattle.ts_session.specs.declared.finding.FoundHead.{FoundHead}
 use Rattle.ts_session.specs.declared.request.Reading.{Reading}
 use Rattle.ts_session.specs.declared.request.Reading.TheVariants as R
 use Rattle.ts_session.specs.declared.request.Request.{Request}
@@ -277,6 +274,24 @@ module _ (tells : Bool) (r : Request) (held' : List ℕ) (l m : Look) (stage : r
       (sym (append-nil r.held) ∙ (λ i. sym same i ++ sym (fills.reads.ends tell) i))
       (head_holds r stage head).0))
       (λ tell before at nothing. fills.reads.ends tell)
+
+  -- what came is looked at, and before it there was no head
+  pub filled_fresh : (n : ℕ) → FillsFrom tells r.held held' l m (G.Bytes n)
+      → (n ≤ length held') × LacksRequest (before_last n held')
+  filled_fresh n fills =
+      let come : length (take n fills.into) ≡ n = omega (
+        arith,
+        length-take n fills.into,
+        fills.reads.fills.1,
+      ) in
+      let long : length held' ≡ length r.held + n =
+      omega (arith, ap length fills.held_is, length-append r.held (take n fills.into), come) in
+      let before : length held' - n ≡ length r.held = omega (arith, long) in (
+        omega (arith, long),
+        subst LacksRequest (sym (ap (λ k. take k held') before
+            ∙ ap (take (length r.held)) fills.held_is
+            ∙ take_at r.held (take n fills.into) (length r.held) refl)) (head_holds r stage head).0,
+      )
 
   -- more is held then
   pub filled_more : (n : ℕ) → FillsFrom tells r.held held' l m (G.Bytes n) → length r.held < length held'

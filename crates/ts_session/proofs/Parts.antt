@@ -1,6 +1,6 @@
 -- What is seen of a request, by what stands before it and what is held.
-use Rattle.std.proofs.Common.{◌≡◌, ℕ, ◌≤◌, List, [], ◌++◌, length, take, drop, refl, sym, ap, ◌∙◌, arith}
-use Rattle.std.proofs.Common.{append_assoc, length-append}
+use Rattle.std.proofs.Common.{◌≡◌, ℕ, zero, suc, ◌+◌, ◌≤◌, List, [], ◌∷◌, ◌++◌, length, take, drop, refl, sym, ap, ◌∙◌, arith}
+use Rattle.std.proofs.Common.{append_assoc}
 use Rattle.std.proofs.lemmas.List.{drop_at, length-take}
 use Rattle.ts_lists.proofs.Fronts.{rest_by_length}
 use Rattle.ts_session.specs.Course.{given_on, left_by, since}
@@ -51,3 +51,17 @@ pub whole_more : (given held left piece held' left' : List ℕ) → held ++ left
     → given ++ (held ++ left) ≡ (given ++ piece) ++ (held' ++ left')
 whole_more given held left piece held' left' is =
     ap (λ x. given ++ x) is ∙ sym (append_assoc given piece (held' ++ left'))
+
+-- a front, and what follows it
+pub take_on : (n m : ℕ) (l : List ℕ) → take n l ++ take m (drop n l) ≡ take (n + m) l
+take_on zero m l = ap (λ k. take k l) (omega arith)
+take_on (suc n) m [] =
+    let long : suc n + m ≡ suc (n + m) = omega arith in
+    none m ∙ ap (λ k. take k []) (sym long)
+  where
+    none : (k : ℕ) → take {A = ℕ} k [] ≡ []
+    none zero = refl
+    none (suc k) = refl
+take_on (suc n) m (b ∷ l) =
+    let long : suc n + m ≡ suc (n + m) = omega arith in
+    ap (λ t. b ∷ t) (take_on n m l) ∙ ap (λ k. take k (b ∷ l)) (sym long)

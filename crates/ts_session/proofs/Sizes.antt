@@ -1,7 +1,7 @@
 -- A request's body is no longer than a body may be.
 use Rattle.std.proofs.Common.{◌≡◌, ℕ, ◌≤◌, ◌&&◌, Bool, true, false, cond, List, [], ◌∷◌, refl, arith}
 use Rattle.std.specs.List.{list_all}
-use Rattle.std.specs.Prelude.{if◌then◌else◌, nat_lt, nat_le, length, map, codes, ◌==◌, ◌||◌}
+use Rattle.std.specs.Prelude.{nat_lt, nat_le, length, map, codes, ◌==◌, ◌||◌}
 use Rattle.std.specs.Char.{is_ascii_digit}
 use Rattle.std.specs.Str.Parse.{digits_value}
 use Rattle.std.proofs.lemmas.Bool.{and_parts, leb-true}
@@ -15,7 +15,6 @@ use Rattle.ts_wire.specs.declared.framing.ContentLength.{ContentLength}
 use Rattle.ts_wire.specs.declared.framing.ContentLength.TheVariants as L
 use Rattle.ts_wire.specs.declared.framing.TransferCoding.{TransferCoding}
 use Rattle.ts_wire.specs.declared.framing.TransferCoding.TheVariants as C
-use Rattle.ts_wire.specs.declared.ends.RequestEnd.{RequestEnd}
 use Rattle.ts_wire.specs.declared.ends.RequestEnd.TheVariants as E
 
 -- a length that a field says

@@ -1,18 +1,20 @@
 -- What a write to a client does to the response that is written to a span, and to the request that it shows.
-use Rattle.std.proofs.Common.{◌≡◌, ℕ, ◌≤◌, Bool, true, false, ◌||◌, List, [], ◌++◌, length, take, drop, refl, sym, ap}
-use Rattle.std.proofs.Common.{subst, ⊎_elim, ◌∙◌, arith, append_assoc, length-append}
-use Rattle.std.specs.Prelude.{not, ◌&&◌, ◌==◌}
-use Rattle.std.proofs.lemmas.Bool.{and_parts, eqb-true, or_cases, or_left, or_right}
-use Rattle.std.proofs.lemmas.List.{append-nil, length-take, nil_from_length, take-take, take_at}
+use Rattle.std.proofs.Common.{◌≡◌, ℕ, ◌<◌, ◌≤◌, Bool, true, false, List, [], ◌++◌, length, take, drop, inl, refl}
+use Rattle.std.proofs.Common.{sym, ap, subst, ⊎_elim, ◌∙◌, arith, append_assoc, length-append}
+use Rattle.std.specs.Prelude.{◌&&◌}
+use Rattle.std.proofs.lemmas.Bool.{and_from, cases_lt, or_left}
+use Rattle.std.proofs.lemmas.List.{append-nil, drop_at, length-take, take-take, take_at}
 use Rattle.ts_link.specs.Link.{Look, MayReplace, Writes}
 use Rattle.ts_link.specs.LinkAnswers.{PutsSome, count_put}
 use Rattle.ts_link.specs.declared.link.Put.{Put}
 use Rattle.ts_link.specs.declared.link.Put.TheVariants as P
-use Rattle.ts_session.specs.Course.{EndsEmpty, HoldsHead, HoldsRequest, HoldsResponse, IsPlaced, IsRest}
-use Rattle.ts_session.specs.Course.{RespondsBy, StandsBy, given_on, is_dropped, left_by, since, written_by}
-use Rattle.ts_session.specs.Kept.{AreLines, close_line}
-use Rattle.ts_session.specs.Lines.{GoesOver, IsCut, IsInHead, LinesBefore, ShowsHead, may_drop_at}
-use Rattle.ts_session.specs.Writing.{LeavesAll, LeavesClient, TakesOn, WritesOn}
+use Rattle.ts_session.specs.Course.{EndsEmpty, HoldsRequest, IsPlaced, IsRest, IsWithin}
+use Rattle.ts_session.specs.Course.{RespondsBy, StandsBy, TookSent, given_on, has_found, left_by, since, stage_by}
+use Rattle.ts_session.specs.Course.{written_by}
+use Rattle.ts_session.specs.Kept.{close_line}
+use Rattle.ts_session.specs.Lines.{BeginsLine, GoesOver, HasEnded, PassesNoLine, ShowsHead, agrees}
+use Rattle.ts_session.specs.Lines.{may_drop_at}
+use Rattle.ts_session.specs.Writing.{DropsOn, LeavesAll, LeavesClient, WritesOn}
 use Rattle.ts_session.specs.declared.lines.Lines.{Lines}
 use Rattle.ts_session.specs.declared.request.Reading.{Reading}
 use Rattle.ts_session.specs.declared.request.Reading.TheVariants as R
@@ -20,6 +22,8 @@ use Rattle.ts_session.specs.declared.request.Request.{Request}
 use Rattle.ts_session.specs.declared.response.Response.{Response}
 use Rattle.ts_session.specs.declared.response.Sending.{Sending}
 use Rattle.ts_session.specs.declared.response.Sending.TheVariants as S
+use Rattle.ts_session.proofs.HeadWalks.{begins_may, ended_begins}
+use Rattle.ts_session.proofs.LineFronts.{ended_more}
 use Rattle.ts_session.proofs.LinkCalls.{before_is, replace_none, replace_short}
 use Rattle.ts_session.proofs.Parts.{given_is, since_is}
 use Rattle.ts_session.proofs.Giving.{known_is_not_head, left_stays, open_is_not_head}
@@ -95,7 +99,7 @@ request_left tells before r l m given may holds tell =
 -- ---- the response
 
 -- what a write of the client leaves of it
-leaves_client : (tells : Bool) (l m : Look) (answer : Put) (piece : List ℕ)
+pub leaves_client : (tells : Bool) (l m : Look) (answer : Put) (piece : List ℕ)
     → Writes tells l m answer piece → LeavesClient tells l m answer
 leaves_client tells l m answer piece w = record {
   source = w.calls.source;
@@ -116,14 +120,28 @@ since_more start sent more taken is =
     since_is start (sent ++ more) (taken ++ more) (ap (λ t. t ++ more) is ∙ append_assoc start sent more)
     ∙ ap (λ t. t ++ more) (sym (since_is start sent taken is))
 
--- a response that is passed on as it is
+lacks_all : (answer : Put) (p : Response) (cut l m : Look) (tells : Bool) (piece : List ℕ)
+    → Writes tells l m answer piece → LeavesAll answer p p cut cut l m
+lacks_all (P.Took n) p cut l m tells piece w = tt
+lacks_all P.Again p cut l m tells piece w = tt
+lacks_all P.Failed p cut l m tells piece w = tt
+lacks_all P.NoMemory p cut l m tells piece w = inl (refl, refl, w.lacks)
+
+-- ---- a response that is passed on as it is
+
 rest_written : (x : Sending) → IsRest x → (lines : Lines) (asks : Bool) (start cut l m more : List ℕ)
     → m ≡ l ++ more → RespondsBy x lines asks start cut l
     → (written_by x start cut m ≡ written_by x start cut l ++ more) × RespondsBy x lines asks start cut m
 rest_written S.Head rest lines asks start cut l m more is responds = absurd rest
-rest_written S.Passing rest lines asks start cut l m more is (sent, at) = (
+rest_written (S.Line count) rest lines asks start cut l m more is responds = absurd rest
+rest_written (S.Owed from to) rest lines asks start cut l m more is responds = absurd rest
+rest_written S.Passing rest lines asks start cut l m more is (sent, at, ended) = (
   ap (since start) is ∙ since_more start sent more l at,
-  (sent ++ more, is ∙ ap (λ t. t ++ more) at ∙ append_assoc start sent more),
+  (
+    sent ++ more,
+    is ∙ ap (λ t. t ++ more) at ∙ append_assoc start sent more,
+    ended_more sent more ended,
+  ),
 )
 rest_written S.Dropped rest lines asks start cut l m more is c = (
   ap (λ t. since start cut ++ (close_line ++ t))
@@ -141,50 +159,80 @@ rest_written S.Dropped rest lines asks start cut l m more is c = (
   },
 )
 
-lacks_all : (answer : Put) (p : Response) (cut l m : Look) (tells : Bool) (piece : List ℕ)
-    → Writes tells l m answer piece → LeavesAll answer p p cut cut l m
-lacks_all (P.Took n) p cut l m tells piece w = tt
-lacks_all P.Again p cut l m tells piece w = tt
-lacks_all P.Failed p cut l m tells piece w = tt
-lacks_all P.NoMemory p cut l m tells piece w = (refl, refl, w.lacks)
-
-or_first : (a b : Bool) → a ≡ true → (a || b) ≡ true
-or_first true b is = refl
-or_first false b is = let wrong : false ≡ true = is in absurd (cc)
-
-pub rest_writes : (tells may asks : Bool) (p : Response) (cut l m : Look) (answer : Put) (piece : List ℕ)
-    → IsRest p.sending → Writes tells l m answer piece
-    → WritesOn tells may asks p p cut cut l m answer piece
-rest_writes tells may asks p cut l m answer piece rest w = record {
-  takes = w.takes;
-  leaves = leaves_client tells l m answer piece w;
-  lacks = lacks_all answer p cut l m tells piece w;
-  drops = λ dropped. or_first (is_dropped p.sending) may dropped;
-  on = λ start holds. record {
-    written = λ tell. (rest_written p.sending rest p.lines asks start cut.taken l.taken m.taken
-        (take (count_put answer) piece) (w.told tell).taken (holds tell)).0;
-    holds = λ tell. (rest_written p.sending rest p.lines asks start cut.taken l.taken m.taken
-        (take (count_put answer) piece) (w.told tell).taken (holds tell)).1;
-  };
+-- its head has ended, or had its line
+pub rest_ended : (x : Sending) → IsRest x → (lines : Lines) (asks : Bool) (start cut l : List ℕ)
+    → RespondsBy x lines asks start cut l → HasEnded (written_by x start cut l)
+rest_ended S.Head rest lines asks start cut l responds = absurd rest
+rest_ended (S.Line count) rest lines asks start cut l responds = absurd rest
+rest_ended (S.Owed from to) rest lines asks start cut l responds = absurd rest
+rest_ended S.Passing rest lines asks start cut l (sent, at, ended) =
+    subst HasEnded (sym (since_is start sent l at)) ended
+rest_ended S.Dropped rest lines asks start cut l c = record {
+  told = c.told;
+  lines = c.lines;
+  are = c.are;
+  last = close_line;
+  is_last = inl refl;
+  behind = c.behind;
+  is = λ i. since_is start c.lines cut c.cut_is i ++ (close_line ++ since_is cut c.behind l c.taken_is i);
 }
 
--- some of a head was written, whose lines are these then
-head_response : (x : Sending) → (x ≡ S.Dropped → ⊥) → (lines : Lines) (asks : Bool) (start cut l sent : List ℕ)
-    → l ≡ start ++ sent → ShowsHead sent lines → RespondsBy x lines asks start cut l
-head_response S.Head never lines asks start cut l sent at shows = (sent, at, shows)
-head_response S.Passing never lines asks start cut l sent at shows = (sent, at)
-head_response S.Dropped never lines asks start cut l sent at shows = absurd (never refl)
+not_line : (x : Sending) (count : ℕ) → IsRest x → x ≡ S.Line count → ⊥
+not_line S.Head count rest is = rest
+not_line (S.Line n) count rest is = rest
+not_line (S.Owed from to) count rest is = rest
+not_line S.Passing count rest is = absurd (cc)
+not_line S.Dropped count rest is = absurd (cc)
 
-plain_written : (x : Sending) → (x ≡ S.Dropped → ⊥) → (start cut l : List ℕ)
-    → written_by x start cut l ≡ since start l
-plain_written S.Head never start cut l = refl
-plain_written S.Passing never start cut l = refl
-plain_written S.Dropped never start cut l = absurd (never refl)
+module _ (tells may asks : Bool) (p : Response) (cut l m : Look) (answer : Put) (piece : List ℕ)
+    (rest : IsRest p.sending) where
+  pub rest_writes : Writes tells l m answer piece → WritesOn tells may asks p p cut cut l m answer piece
+  rest_writes w = record {
+    takes = w.takes;
+    leaves = leaves_client tells l m answer piece w;
+    lacks = lacks_all answer p cut l m tells piece w;
+    found = λ found. or_left (has_found p.sending) may found;
+    on = λ start holds. record {
+      written = λ tell. (rest_written p.sending rest p.lines asks start cut.taken l.taken m.taken
+          (take (count_put answer) piece) (w.told tell).taken (holds tell)).0;
+      holds = λ tell. (rest_written p.sending rest p.lines asks start cut.taken l.taken m.taken
+          (take (count_put answer) piece) (w.told tell).taken (holds tell)).1;
+    };
+  }
 
-not_dropped : (x : Sending) → (x ≡ S.Dropped → ⊥) → is_dropped x ≡ true → ⊥
-not_dropped S.Head never dropped = absurd (cc)
-not_dropped S.Passing never dropped = absurd (cc)
-not_dropped S.Dropped never dropped = never refl
+  -- no line of it is found
+  pub rest_drops : DropsOn tells may asks p p cut l answer piece
+  rest_drops = record {
+    goes_on = λ count is agreed. absurd (not_line p.sending count rest is);
+    finds = λ tell so start holds.
+        let ended = rest_ended p.sending rest p.lines asks start cut.taken l.taken (holds tell) in
+        let written : List ℕ = written_by p.sending start cut.taken l.taken in
+        record {
+          begins = λ b agreed. absurd (ended_begins asks written [] ended
+              (subst (BeginsLine asks) (sym (append-nil written)) b));
+          stops = λ front behind parts some b agreed. absurd (ended_begins asks written front ended b);
+        };
+  }
+
+-- ---- some of a head was written
+
+stage_written : (ended : Bool) (start cut l : List ℕ) → written_by (stage_by ended) start cut l ≡ since start l
+stage_written true start cut l = refl
+stage_written false start cut l = refl
+
+stage_response : (ended : Bool) (lines : Lines) → lines.ended ≡ ended → (asks : Bool)
+    (start cut l sent : List ℕ) → l ≡ start ++ sent → ShowsHead sent lines
+    → RespondsBy (stage_by ended) lines asks start cut l
+stage_response true lines is asks start cut l sent at shows = (sent, at, shows.over is)
+stage_response false lines is asks start cut l sent at shows = (sent, at, shows)
+
+stage_plain : (ended : Bool) → has_found (stage_by ended) ≡ false
+stage_plain true = refl
+stage_plain false = refl
+
+pub stage_within : (ended : Bool) → IsWithin (stage_by ended)
+stage_within true = tt
+stage_within false = tt
 
 lacks_new : (answer : Put) (p q : Response) (cut l m : Look) → (answer ≡ P.NoMemory → ⊥)
     → LeavesAll answer p q cut cut l m
@@ -194,50 +242,47 @@ lacks_new P.Failed p q cut l m never = tt
 lacks_new P.NoMemory p q cut l m never = absurd (never refl)
 
 pub head_writes : (tells may asks : Bool) (p q : Response) (cut l m : Look) (answer : Put)
-    (piece : List ℕ) → p.sending ≡ S.Head → is_dropped q.sending ≡ false → (answer ≡ P.NoMemory → ⊥)
+    (piece : List ℕ) → p.sending ≡ S.Head → q.sending ≡ stage_by q.lines.ended → (answer ≡ P.NoMemory → ⊥)
     → Writes tells l m answer piece → GoesOver p.lines (take (count_put answer) piece) q.lines
     → WritesOn tells may asks p q cut cut l m answer piece
-head_writes tells may asks p q cut l m answer piece head kept some w over = record {
+head_writes tells may asks p q cut l m answer piece head stage some w over = record {
   takes = w.takes;
   leaves = leaves_client tells l m answer piece w;
   lacks = lacks_new answer p q cut l m some;
-  drops = λ dropped. absurd (not_dropped q.sending never dropped);
+  found = λ found.
+      let wrong : true ≡ false = sym found ∙ ap has_found stage ∙ stage_plain q.lines.ended in
+      absurd (cc);
   on = λ start holds. record {
     written = λ tell.
         let was = responds start (holds tell) in
-        plain_written q.sending never start cut.taken m.taken ∙ ap (since start) (w.told tell).taken
+        ap (λ x. written_by x start cut.taken m.taken) stage ∙ stage_written q.lines.ended start cut.taken m.taken
+        ∙ ap (since start) (w.told tell).taken
         ∙ since_more start was.0 (take (count_put answer) piece) l.taken was.1
-        ∙ ap (λ t. t ++ take (count_put answer) piece)
-        (sym (plain_written p.sending not_first start cut.taken l.taken));
+        ∙ ap (λ x. written_by x start cut.taken l.taken ++ take (count_put answer) piece) (sym head);
     holds = λ tell.
         let was = responds start (holds tell) in
-        head_response q.sending never q.lines asks start cut.taken m.taken
+        subst (λ x. RespondsBy x q.lines asks start cut.taken m.taken) (sym stage)
+        (stage_response q.lines.ended q.lines refl asks start cut.taken m.taken
         (was.0 ++ take (count_put answer) piece)
         ((w.told tell).taken ∙ ap (λ t. t ++ take (count_put answer) piece) was.1
         ∙ append_assoc start was.0 (take (count_put answer) piece))
-        (over was.0 was.2);
+        (over was.0 was.2));
   };
 }
   where
     responds : (start : List ℕ) → RespondsBy p.sending p.lines asks start cut.taken l.taken
-        → (sent : List ℕ) × (l.taken ≡ start ++ sent) × ShowsHead sent p.lines
+        → TookSent start l.taken (λ sent. ShowsHead sent p.lines)
     responds start h = subst (λ x. RespondsBy x p.lines asks start cut.taken l.taken) head h
-
-    never : q.sending ≡ S.Dropped → ⊥
-    never dropped = let wrong : true ≡ false = sym (ap is_dropped dropped) ∙ kept in absurd (cc)
-
-    not_first : p.sending ≡ S.Dropped → ⊥
-    not_first dropped = let wrong : S.Head ≡ S.Dropped = sym head ∙ dropped in absurd (cc)
 
 -- nothing of the piece was written
 pub none_writes : (tells may asks : Bool) (p : Response) (cut l m : Look) (answer : Put) (piece : List ℕ)
-    → count_put answer ≡ 0 → Writes tells l m answer piece
+    → count_put answer ≡ 0 → p.sending ≡ S.Head → Writes tells l m answer piece
     → WritesOn tells may asks p p cut cut l m answer piece
-none_writes tells may asks p cut l m answer piece none w = record {
+none_writes tells may asks p cut l m answer piece none head w = record {
   takes = w.takes;
   leaves = leaves_client tells l m answer piece w;
   lacks = lacks_all answer p cut l m tells piece w;
-  drops = λ dropped. or_first (is_dropped p.sending) may dropped;
+  found = λ found. or_left (has_found p.sending) may found;
   on = λ start holds. record {
     written = λ tell. ap (written_by p.sending start cut.taken) (same tell)
         ∙ sym (append-nil (written_by p.sending start cut.taken l.taken))
@@ -273,7 +318,7 @@ front_writes tells may asks p q cut l m answer piece front n is w =
       takes = puts.0;
       leaves = w.leaves;
       lacks = w.lacks;
-      drops = w.drops;
+      found = w.found;
       on = λ start holds.
           let on = w.on start holds in
           record {
@@ -283,78 +328,60 @@ front_writes tells may asks p q cut l m answer piece front n is w =
           };
     }
 
--- ---- the line is dropped
+-- no line is found where none may be dropped
+pub never_drops : (tells may asks : Bool) (p q : Response) (cut l : Look) (answer : Put) (piece : List ℕ)
+    → p.sending ≡ S.Head → may ≡ false → DropsOn tells may asks p q cut l answer piece
+never_drops tells may asks p q cut l answer piece head never = record {
+  goes_on = λ count is agreed. let wrong : S.Head ≡ S.Line count = sym head ∙ is in absurd (cc);
+  finds = λ tell so start holds. let wrong : true ≡ false = sym so ∙ never in absurd (cc);
+}
 
-not_yes : (b : Bool) → not b ≡ true → b ≡ false
-not_yes true never = absurd (cc)
-not_yes false so = refl
+short_put : (answer : Put) (long : ℕ) → PutsSome answer long → count_put answer ≤ long
+short_put (P.Took k) long puts = puts.1
+short_put P.Again long puts = omega arith
+short_put P.Failed long puts = omega arith
+short_put P.NoMemory long puts = omega arith
 
--- the lines before a line that is dropped
-cut_here : (asks : Bool) (s : Lines) (start taken sent : List ℕ) → may_drop_at s asks ≡ true
-    → taken ≡ start ++ sent → ShowsHead sent s → IsCut asks start taken taken
-cut_here asks s start taken sent may at shows =
-    let a = and_parts (s.front.at == 0) (not s.first && (not s.ended && (s.told || asks))) may in
-    let b = and_parts (not s.first) (not s.ended && (s.told || asks)) a.1 in
-    let c = and_parts (not s.ended) (s.told || asks) b.1 in
-    let h = shows (not_yes s.ended c.0) in
-    let here : h.line ≡ [] =
-    nil_from_length h.line (omega (arith, h.front.at_is, eqb-true s.front.at 0 a.0)) in
-    let before : LinesBefore false s.told h.lines =
-    subst (λ x. LinesBefore x s.told h.lines) (not_yes s.first b.0) h.before in
-    record {
-      lines = h.lines;
-      told = before.0;
-      are = before.1;
-      ends = ⊎_elim (λ (told : s.told ≡ true). or_left before.0 asks (before.2 told))
-          (λ (so : asks ≡ true). or_right before.0 asks so) (or_cases s.told asks c.1);
-      cut_is = at ∙ ap (λ t. start ++ t) (h.whole ∙ ap (λ t. h.lines ++ t) here ∙ append-nil h.lines);
-      behind = [];
-      taken_is = sym (append-nil taken);
-    }
-
-module _ (tells may asks : Bool) (p : Response) (cut l : Look) (piece : List ℕ) (so : may ≡ true)
-    (head : p.sending ≡ S.Head) (drops : may_drop_at p.lines asks ≡ true)
-    (is : piece ≡ close_line ++ drop (length close_line) piece) where
-  -- the client is seen as it is when the line is dropped
-  dropped_here : WritesOn tells may asks p (record { sending = S.Dropped; lines = p.lines }) cut l l l
-      (P.Took (length close_line)) piece
-  dropped_here = record {
-    takes = (
-      omega arith,
-      omega (arith, ap length is, length-append close_line (drop (length close_line) piece)),
-    );
-    leaves = record {
-      source = refl;
-      name = refl;
-      carried = refl;
-      uploaded = refl;
-      before = refl;
-      faults = refl;
-      waits = refl;
-      given = λ tell. refl;
-      left = λ tell. replace_none l.given l.left;
-    };
-    lacks = tt;
-    drops = λ dropped. or_right (is_dropped p.sending) may so;
-    on = λ start holds. record {
-      written = λ tell.
-          let none : since l.taken l.taken ≡ [] =
-          since_is l.taken [] l.taken (sym (append-nil l.taken)) in
-          let line : take (length close_line) piece ≡ close_line =
-          ap (take (length close_line)) is
-          ∙ take_at close_line (drop (length close_line) piece) (length close_line) refl in
-          ap (λ t. since start l.taken ++ (close_line ++ t)) none
-          ∙ ap (λ t. since start l.taken ++ t) (append-nil close_line ∙ sym line)
-          ∙ ap (λ x. written_by x start cut.taken l.taken ++ take (length close_line) piece) (sym head);
-      holds = λ tell.
-          let was = subst (λ x. RespondsBy x p.lines asks start cut.taken l.taken) head (holds tell) in
-          cut_here asks p.lines start l.taken was.0 drops was.1 was.2;
-    };
-  }
-
-  pub drop_writes : (cut' : Look) → cut' ≡ l
-      → WritesOn tells may asks p (record { sending = S.Dropped; lines = p.lines }) cut cut' l l
-      (P.Took (length close_line)) piece
-  drop_writes cut' same =
-      subst (λ (k : Look). WritesOn tells may asks p (record { sending = S.Dropped; lines = p.lines }) cut k l l
-      (P.Took (length close_line)) piece) (sym same) dropped_here
+-- where a piece is passed on up to a line, no line stands in what is
+pub front_drops : (tells may asks : Bool) (p q : Response) (cut l : Look) (answer : Put)
+    (piece front : List ℕ) (n : ℕ) → p.sending ≡ S.Head → front ≡ take n piece
+    → PutsSome answer (length front) → (may_drop_at p.lines asks && agrees close_line piece) ≡ false
+    → PassesNoLine asks p.lines piece n → DropsOn tells may asks p q cut l answer piece
+front_drops tells may asks p q cut l answer piece front n head is puts unfound passes = record {
+  goes_on = λ count line agreed. let wrong : S.Head ≡ S.Line count = sym head ∙ line in absurd (cc);
+  finds = λ tell so start holds.
+      let was = subst (λ x. RespondsBy x p.lines asks start cut.taken l.taken) head (holds tell) in
+      let written : written_by p.sending start cut.taken l.taken ≡ was.0 =
+      ap (λ x. written_by x start cut.taken l.taken) head ∙ since_is start was.0 l.taken was.1 in
+      record {
+        begins = λ b agreed.
+            let drops = begins_may asks was.0 p.lines was.2 (subst (BeginsLine asks) written b) in
+            let wrong : true ≡ false =
+            sym (and_from (may_drop_at p.lines asks) (agrees close_line piece) drops agreed) ∙ unfound in
+            absurd (cc);
+        stops = λ before behind parts some b agreed.
+            by_length was.0 was.2 before behind parts some
+            (subst (λ w. BeginsLine asks (w ++ before)) written b) agreed;
+      };
+}
+  where
+    by_length : (sent : List ℕ) → ShowsHead sent p.lines → (before behind : List ℕ) → piece ≡ before ++ behind
+        → 0 < length before → BeginsLine asks (sent ++ before) → agrees close_line behind ≡ true
+        → count_put answer ≤ length before
+    by_length sent shows before behind parts some b agreed =
+        ⊎_elim
+        (λ (inside : length before < count_put answer).
+        let short = short_put answer (length front) puts in
+        let within : length before < n =
+        omega (arith, inside, short, ap length is, length-take n piece) in
+        let front_is : take (length before) piece ≡ before =
+        ap (take (length before)) parts ∙ take_at before behind (length before) refl in
+        let rest_is : drop (length before) piece ≡ behind =
+        ap (drop (length before)) parts ∙ drop_at before behind (length before) refl in
+        let never : agrees close_line (drop (length before) piece) ≡ false =
+        passes sent shows (length before) some within
+        (subst (λ t. BeginsLine asks (sent ++ t)) (sym front_is) b) in
+        let wrong : true ≡ false = sym agreed ∙ ap (agrees close_line) (sym rest_is) ∙ never in
+        absurd (cc))
+        (λ (long : count_put answer ≤ length before). long)
+        (cases_lt (length before) (count_put answer))

@@ -1,5 +1,6 @@
 -- What is seen of a span, the link that shows one request of a client and then its end.
-use Rattle.std.specs.Prelude.{◌≡◌, ℕ, ◌+◌, ◌-◌, ◌<◌, ◌⊎◌, List, [], ◌∷◌, ◌++◌, length, take, drop, Bool, true, false, None, ⊤, refl}
+use Rattle.std.specs.Prelude.{◌≡◌, ℕ, ◌+◌, ◌-◌, ◌<◌, List, [], ◌++◌, length, take, drop, slice_range}
+use Rattle.std.specs.Prelude.{Bool, true, false, ◌&&◌, ◌==◌, if◌then◌else◌, nat_lt, None, ⊤, refl}
 use Rattle.std.proofs.Common.{◌∙◌}
 use Rattle.httparse.specs.Grammar as grammar
 use Rattle.httparse.specs.Grammar.{print_request}
@@ -10,7 +11,7 @@ use Rattle.ts_wire.specs.RequestEnds.{end_of_request}
 use Rattle.ts_wire.specs.declared.ends.RequestEnd.TheVariants as E
 use Rattle.ts_session.specs.Kept.{close_line}
 use Rattle.ts_session.specs.Limits.{most_places}
-use Rattle.ts_session.specs.Lines.{IsCut, ShowsHead, new_lines}
+use Rattle.ts_session.specs.Lines.{BeginsLine, HasEnded, IsCut, ShowsHead, may_drop_at, new_lines}
 use Rattle.ts_session.specs.Requests.{GivesAll, asks_head, persists}
 use Rattle.ts_session.specs.declared.course.Course.{Course}
 use Rattle.ts_session.specs.declared.lines.Lines.{Lines}
@@ -95,10 +96,18 @@ pub record HoldsRequest (tells : Bool) (before : List ℕ) (r : Request) (l : Lo
 
 -- ---- the response
 
+-- what was written and is held or owed: the client did not take it yet
+abbrev pub waiting : Sending → List ℕ
+waiting (S.Line count) = take count close_line
+waiting (S.Owed from to) = slice_range close_line from to
+waiting _ = []
+
 -- What was written, by what the client took since the request began and since the line was dropped: where
 -- `connection: close` was dropped, the client did not take it.
 abbrev pub written_by : Sending → List ℕ → List ℕ → List ℕ → List ℕ
 written_by S.Dropped start cut taken = since start cut ++ (close_line ++ since cut taken)
+written_by (S.Line count) start cut taken = since start taken ++ take count close_line
+written_by (S.Owed from to) start cut taken = since start taken ++ slice_range close_line from to
 written_by _ start cut taken = since start taken
 
 -- the line was dropped
@@ -106,20 +115,57 @@ abbrev pub is_dropped : Sending → Bool
 is_dropped S.Dropped = true
 is_dropped _ = false
 
+-- a line was found that may be dropped: it was dropped, or some of it is held, or was held and is owed
+abbrev pub has_found : Sending → Bool
+has_found S.Dropped = true
+has_found (S.Line count) = true
+has_found (S.Owed from to) = true
+has_found _ = false
+
+-- so much of the line was written, and is held, or was dropped with the rest
+abbrev pub line_at : ℕ → Sending
+line_at count = if nat_lt count (length close_line) then S.Line count else S.Dropped
+
+-- some of the line is held, but not all of it; some is owed of what was held
+abbrev pub IsWithin : Sending → Type 0
+IsWithin (S.Line count) = (0 < count) × (count < length close_line)
+IsWithin (S.Owed from to) = (from < to) × (to < length close_line)
+IsWithin _ = ⊤
+
+-- how a response is sent on, by whether its head has ended
+abbrev pub stage_by : Bool → Sending
+stage_by true = S.Passing
+stage_by false = S.Head
+
 -- its head has been written, or its line was dropped
 abbrev pub IsRest : Sending → Type 0
-IsRest S.Head = ⊥
-IsRest _ = ⊤
+IsRest S.Dropped = ⊤
+IsRest S.Passing = ⊤
+IsRest _ = ⊥
 
 -- nothing of it was written
 abbrev pub fresh_response : Response
 fresh_response = record { sending = S.Head; lines = new_lines }
 
+-- this was written of a head: whole lines, and of the line that was begun then so much of `connection: close`
+pub record IsOwing (asks : Bool) (lines : Lines) (count : ℕ) (written : List ℕ) : Type 0 where
+  pub shows : ShowsHead written lines
+  pub before : List ℕ
+  pub begins : BeginsLine asks before
+  pub written_is : written ≡ before ++ take count close_line
+
+-- the client took what was sent, behind what it took before
+abbrev pub TookSent : List ℕ → List ℕ → (List ℕ → Type 0) → Type 0
+TookSent start taken Holds = (sent : List ℕ) × (taken ≡ start ++ sent) × Holds sent
+
 -- how the response stands, where it is known what was sent of it before the line was dropped, or so far
 abbrev pub RespondsBy : Sending → Lines → Bool → List ℕ → List ℕ → List ℕ → Type 0
-RespondsBy S.Head lines asks start cut taken =
-    (sent : List ℕ) × (taken ≡ start ++ sent) × ShowsHead sent lines
-RespondsBy S.Passing lines asks start cut taken = (sent : List ℕ) × (taken ≡ start ++ sent)
+RespondsBy S.Head lines asks start cut taken = TookSent start taken (λ sent. ShowsHead sent lines)
+RespondsBy (S.Line count) lines asks start cut taken =
+    TookSent start taken (λ sent. ShowsHead sent lines × (may_drop_at lines asks ≡ true))
+RespondsBy (S.Owed from to) lines asks start cut taken =
+    TookSent start taken (λ sent. IsOwing asks lines to (sent ++ slice_range close_line from to))
+RespondsBy S.Passing lines asks start cut taken = TookSent start taken HasEnded
 RespondsBy S.Dropped lines asks start cut taken = IsCut asks start cut taken
 
 -- WHAT HOLDS of the response
@@ -127,18 +173,25 @@ abbrev pub HoldsResponse : Bool → Bool → List ℕ → List ℕ → Response 
 HoldsResponse tells asks start cut p l =
     tells ≡ true → RespondsBy p.sending p.lines asks start cut l.taken
 
--- the request was given whole, its client lets the connection go on, and the session may carry more requests
-pub record GoesOnBehind (r : Request) (place : ℕ) : Type 0 where
-  pub whole : r.reading ≡ R.Known 0
-  pub persists_is : r.persists ≡ true
-  pub within : place < most_places
+-- it was given whole
+abbrev pub is_whole : Reading → Bool
+is_whole (R.Known n) = n == 0
+is_whole _ = false
 
--- so it is where the line was dropped
+-- the request was given whole, its client lets the connection go on, and the session may carry more requests
+abbrev pub may_go_on : Request → ℕ → Bool
+may_go_on r place = is_whole r.reading && (r.persists && nat_lt place most_places)
+
+-- so it is where a line was found that may be dropped
 abbrev pub MayGoOn : Sending → Request → ℕ → Type 0
-MayGoOn S.Dropped r place = GoesOnBehind r place
-MayGoOn _ r place = ⊤
+MayGoOn x r place = has_found x ≡ true → may_go_on r place ≡ true
 
 -- ---- the span
+
+-- bytes that are seen of a link that tells, and none of any other
+abbrev pub told : Bool → List ℕ → List ℕ
+told true bytes = bytes
+told false bytes = []
 
 module _ {C : Type 0} (look : C → Look) where
   -- what the client gave before the request, and took before the response
@@ -149,10 +202,23 @@ module _ {C : Type 0} (look : C → Look) where
   abbrev pub taken_before : Course C → List ℕ
   taken_before s = (look s.begun.value).taken
 
+  -- what was given of the request, what is left of it, and what was written of the response
+  abbrev pub request_given : Course C → List ℕ
+  request_given s = since (given_before s) (given_on s.request.held (look s.client).given)
+
+  abbrev pub request_rest : Course C → List ℕ
+  request_rest s = left_by s.request.reading (s.request.held ++ (look s.client).left)
+
+  abbrev pub response_written : Course C → List ℕ
+  response_written s =
+      written_by s.response.sending (taken_before s) (look s.cut.value).taken (look s.client).taken
+
   -- WHAT IS SEEN of a span: of its request alone. Its calls are its own, so it tells no plan of them.
-  abbrev pub span_look : Course C → Look
-  span_look s = record (request_through (given_before s) s.request (look s.client)) {
-    taken = written_by s.response.sending (taken_before s) (look s.cut.value).taken (look s.client).taken;
+  abbrev pub span_look : Bool → Course C → Look
+  span_look tells s = record (look s.client) {
+    given = told tells (request_given s);
+    left = told tells (request_rest s);
+    taken = told tells (response_written s);
     source = since (given_before s) (look s.client).source;
     reads = s.reads;
     writes = s.writes;
@@ -169,6 +235,7 @@ module _ {C : Type 0} (look : C → Look) where
     pub request : HoldsRequest tells (given_before s) s.request (look s.client)
     pub response : HoldsResponse tells s.request.asks_head (taken_before s) (look s.cut.value).taken
         s.response (look s.client)
+    pub within : IsWithin s.response.sending
     pub rule : MayGoOn s.response.sending s.request s.place
     pub begun : (look s.client).before ≡ (look s.begun.value).before
 

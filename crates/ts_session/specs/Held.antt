@@ -1,5 +1,9 @@
 -- What is done with the bytes that a span holds.
-use Rattle.std.specs.Prelude.{◌≡◌, ℕ, ◌≤◌, List, ◌+◌, ◌++◌, Bool, true, length, take, drop, min}
+use Rattle.std.specs.Prelude.{◌≡◌, ℕ, ◌<◌, ◌≤◌, List, ◌+◌, ◌-◌, ◌++◌, ◌||◌, ◌==◌, Bool, true, length, take, drop, min}
+use Rattle.std.specs.List.{list_all}
+use Rattle.httparse.specs.Ascii.{carriage_return, line_feed}
+use Rattle.ts_wire.specs.Heads.{LacksRequest}
+use Rattle.ts_wire.specs.Limits.{head_limit}
 use Rattle.ts_link.specs.Link.{Calls, GivesMore, Look, Reads}
 use Rattle.ts_link.specs.LinkAnswers.{EndsWell, FillsSome, count_got, got_again, got_failed}
 use Rattle.ts_link.specs.declared.link.Got.{Got}
@@ -51,3 +55,23 @@ pub record GivesPart (tells : Bool) (held held' : List ℕ) (l l' : Look) (answe
   pub told : tells ≡ true → GivesMore l l' came
   pub moved : held ++ came ≡ take (count_got answer) into ++ held'
   pub ends : tells ≡ true → EndsWell answer (held' ++ l'.left)
+
+-- ---- where a head cannot end
+
+-- a byte of the end of a line
+abbrev pub is_end_byte : ℕ → Bool
+is_end_byte b = (b == carriage_return) || (b == line_feed)
+
+-- there is no other byte, so no line has begun that is not empty
+abbrev pub AreBlank : List ℕ → Type 0
+AreBlank bytes = list_all is_end_byte bytes ≡ true
+
+-- what was held before the last so many bytes came
+abbrev pub before_last : ℕ → List ℕ → List ℕ
+before_last fresh bytes = take (length bytes - fresh) bytes
+
+-- No head ends within the last so many bytes, and more of one can be held: where there was none before them, there is
+-- none now.
+pub record CannotEnd (fresh : ℕ) (bytes : List ℕ) : Type 0 where
+  pub short : length bytes < head_limit
+  pub lacks : LacksRequest (before_last fresh bytes) → LacksRequest bytes

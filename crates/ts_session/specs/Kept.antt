@@ -61,3 +61,7 @@ pub record IsKept (response kept : List ℕ) : Type 0 where
   pub behind : List ℕ
   pub response_is : response ≡ lines ++ (close_line ++ behind)
   pub kept_is : kept ≡ lines ++ behind
+
+-- THE LAW that the line is one: what is kept of a response is one list
+abbrev pub HasOneKept : Type 0
+HasOneKept = (response a b : List ℕ) → IsKept response a → IsKept response b → a ≡ b

@@ -1,3 +1,4 @@
+pub mod ChunksEnd
 pub mod Course
 pub mod Finding
 pub mod Held

@@ -1,5 +1,6 @@
 -- The lines of a response's head as they are written, however they are cut.
-use Rattle.std.specs.Prelude.{◌≡◌, ℕ, ◌-◌, Bool, true, false, not, ◌&&◌, ◌||◌, List, [], ◌∷◌, ◌++◌, ◌==◌, length, min, codes, nat_le}
+use Rattle.std.specs.Prelude.{◌≡◌, ◌⊎◌, ℕ, ◌-◌, ◌<◌, Bool, true, false, not, ◌&&◌, ◌||◌, List, [], ◌∷◌, ◌++◌, ◌==◌}
+use Rattle.std.specs.Prelude.{length, min, take, drop, codes, nat_le}
 use Rattle.ts_session.specs.Kept.{AreLines, close_line, empty_line, lacks_feed}
 use Rattle.ts_session.specs.declared.lines.LineFront.{LineFront}
 use Rattle.ts_session.specs.declared.lines.Lines.{Lines}
@@ -22,10 +23,10 @@ pub record IsFront (line : List ℕ) (f : LineFront) : Type 0 where
   pub closes : f.closes ≡ agrees close_line line
   pub empty : f.empty ≡ agrees empty_line line
 
--- the lines before it: none, where it is the status line
+-- the lines before it, and whether they tell where the response ends: none, where it is the status line
 abbrev pub LinesBefore : Bool → Bool → List ℕ → Type 0
 LinesBefore true told lines = (lines ≡ []) × (told ≡ false)
-LinesBefore false told lines = (t : Bool) × AreLines t lines × (told ≡ true → t ≡ true)
+LinesBefore false told lines = AreLines told lines
 
 -- these bytes of a head were written: whole lines, and a line that was begun
 pub record IsInHead (sent : List ℕ) (s : Lines) : Type 0 where
@@ -36,9 +37,31 @@ pub record IsInHead (sent : List ℕ) (s : Lines) : Type 0 where
   pub front : IsFront line s.front
   pub before : LinesBefore s.first s.told lines
 
--- the same, unless the head has ended or had its `connection: close`
-abbrev pub ShowsHead : List ℕ → Lines → Type 0
-ShowsHead sent s = s.ended ≡ false → IsInHead sent s
+-- the line is `connection: close`, or ends the head
+abbrev pub IsLast : List ℕ → Type 0
+IsLast line = (line ≡ close_line) ⊎ (line ≡ empty_line)
+
+-- these bytes begin with a head that has ended, or had its `connection: close`
+pub record HasEnded (sent : List ℕ) : Type 0 where
+  pub told : Bool
+  pub lines : List ℕ
+  pub are : AreLines told lines
+  pub last : List ℕ
+  pub is_last : IsLast last
+  pub behind : List ℕ
+  pub is : sent ≡ lines ++ (last ++ behind)
+
+-- these bytes of a response were written: its head has ended, or had its `connection: close`, or not
+pub record ShowsHead (sent : List ℕ) (s : Lines) : Type 0 where
+  pub going : s.ended ≡ false → IsInHead sent s
+  pub over : s.ended ≡ true → HasEnded sent
+
+-- Whole lines of a head were written, and no line of it is begun. They tell where the response ends, unless it has
+-- only a head: so the next line is dropped, where it is `connection: close` and the connection may go on.
+pub record BeginsLine (asks : Bool) (sent : List ℕ) : Type 0 where
+  pub told : Bool
+  pub are : AreLines told sent
+  pub ends : told || asks ≡ true
 
 -- whatever was written before, these bytes were written behind it
 abbrev pub GoesOver : Lines → List ℕ → Lines → Type 0
@@ -79,6 +102,13 @@ front_last f =
 -- it has only a head
 abbrev pub may_drop_at : Lines → Bool → Bool
 may_drop_at s asks = (s.front.at == 0) && (not s.first && (not s.ended && (s.told || asks)))
+
+-- No front of the bytes, of more than none and fewer than so many, ends where a line begins that may be dropped, and
+-- has the line or a front of it behind it.
+abbrev pub PassesNoLine : Bool → Lines → List ℕ → ℕ → Type 0
+PassesNoLine asks s bytes count =
+    (sent : List ℕ) → ShowsHead sent s → (at : ℕ) → 0 < at → at < count → BeginsLine asks (sent ++ take at bytes)
+    → agrees close_line (drop at bytes) ≡ false
 
 -- The client took whole lines of a head, then the line was dropped, and the client took what follows. The lines
 -- tell where the response ends, unless it has only a head.

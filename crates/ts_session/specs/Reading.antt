@@ -1,5 +1,5 @@
 -- What reads of a span do to its request and to its client.
-use Rattle.std.specs.Prelude.{◌≡◌, ◌≢◌, ℕ, ◌<◌, ◌⊎◌, Bool, true, false, List, [], ◌++◌, length, take, ⊤}
+use Rattle.std.specs.Prelude.{◌≡◌, ℕ, ◌<◌, ◌⊎◌, Bool, true, false, List, [], ◌++◌, length, take, ⊤}
 use Rattle.ts_link.specs.Link.{Calls, GivesMore, Look}
 use Rattle.ts_link.specs.LinkAnswers.{EndsWell, FillsSome, count_got, got_again, got_failed}
 use Rattle.ts_link.specs.declared.link.Got.{Got}

@@ -35,6 +35,12 @@ pub data AreRequests : List ℕ → List (List ℕ) → List ℕ → Type 0 wher
   next : (first more last : List ℕ) (others : List (List ℕ)) → IsRequest first → AreRequests more others last
       → AreRequests (first ++ more) (first ∷ others) last
 
+-- THE LAW that the requests of some bytes are one list, and their last part is one
+abbrev pub HasOneList : Type 0
+HasOneList =
+    (bytes : List ℕ) (a b : List (List ℕ)) (x y : List ℕ) → AreRequests bytes a x → AreRequests bytes b y
+    → (a ≡ b) × (x ≡ y)
+
 -- Why all that is left of a client's bytes belongs to one request: it begins with no head, or with one that
 -- announces a body of which nobody looks where it ends, or a body in chunks.
 pub data GivesAll (bytes : List ℕ) : Type 0 where

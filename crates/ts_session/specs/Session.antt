@@ -1,32 +1,42 @@
 -- What the spans of one client come to, one after the other (RFC 9112, section 9.3).
-use Rattle.std.specs.Prelude.{◌≡◌, ℕ, ◌<◌, ◌⊎◌, ◌||◌, Bool, true, false, List, [], ◌++◌}
+use Rattle.std.specs.Prelude.{◌≡◌, ◌≢◌, ℕ, ◌<◌, ◌⊎◌, ◌||◌, Bool, true, false, List, [], ◌++◌, drop, slice_range}
 use Rattle.httparse.specs.Grammar as grammar
 use Rattle.ts_link.specs.Link.{Calls, GivesMore, Look, all_of}
 use Rattle.ts_session.specs.Course.{fresh_request, fresh_response, span_look}
 use Rattle.ts_session.specs.declared.course.Course.{Course}
 use Rattle.ts_session.specs.Kept.{AreLines, IsKept, close_line}
 use Rattle.ts_session.specs.Limits.{most_places}
+use Rattle.ts_session.specs.Lines.{HasEnded, agrees}
 use Rattle.ts_session.specs.Requests.{IsRequest, IsRequestWith, asks_head, persists}
+use Rattle.ts_session.specs.Writing.{FindsLine, HoldsMore}
+use Rattle.ts_session.specs.declared.response.Sending.{Sending}
+use Rattle.ts_session.specs.declared.response.Sending.TheVariants as S
+use Rattle.ts_link.specs.declared.link.Put.{Put}
+use Rattle.ts_wire.specs.RequestEnds.{end_of_request}
+use Rattle.ts_wire.specs.declared.ends.RequestEnd.TheVariants as E
 
 -- the request is the first of these bytes, whole, or all of them
 abbrev pub IsNext : List ℕ → List ℕ → Type 0
 IsNext bytes request = (request ≡ bytes) ⊎ ((more : List ℕ) × (bytes ≡ request ++ more) × IsRequest request)
 
--- what a connection took of a response: all of it, or what is kept of it where the connection goes on
-abbrev pub IsSent : Bool → List ℕ → List ℕ → Type 0
-IsSent true response sent = IsKept response sent
-IsSent false response sent = sent ≡ response
+-- what a connection took of a response: what is kept of it where the connection goes on, or else all of it but for
+-- what waits
+abbrev pub IsSent : Bool → List ℕ → List ℕ → List ℕ → Type 0
+IsSent true waits response sent = IsKept response sent
+IsSent false waits response sent = response ≡ sent ++ waits
 
 -- THE CONNECTION OF A SPAN: behind what it gave before stands the request of the span, and then whatever follows;
 -- and behind what it took before, it took the response of the span, without its line `connection: close` where
--- it goes on.
-pub record IsSession (span : Look) (goes_on : Bool) (client : Look) : Type 0 where
+-- it goes on. Only a front of such a line may wait, within a head that has not ended.
+pub record IsSession (span : Look) (goes_on : Bool) (waits : List ℕ) (client : Look) : Type 0 where
   pub bytes : List ℕ
   pub gave : client.before.0 ++ all_of client ≡ span.before.0 ++ bytes
   pub request : IsNext bytes (all_of span)
   pub sent : List ℕ
-  pub is_sent : IsSent goes_on span.taken sent
+  pub is_sent : IsSent goes_on waits span.taken sent
   pub took : client.before.1 ++ client.taken ≡ span.before.1 ++ sent
+  pub of_line : (from : ℕ) × (to : ℕ) × (waits ≡ slice_range close_line from to)
+  pub within_head : HasEnded span.taken → waits ≡ []
 
 -- WHERE A CONNECTION GOES ON behind a response: the request was given whole and its client lets it go on, the session
 -- may carry more requests, and the lines before the one that was dropped tell where the response ends, unless it has
@@ -43,6 +53,14 @@ pub record MayContinue (span : Look) (place : ℕ) : Type 0 where
   pub behind : List ℕ
   pub response_is : span.taken ≡ lines ++ (close_line ++ behind)
 
+-- WHERE THE LINE IS DROPPED, in one write of the response: where the request was given whole and its client lets the
+-- connection go on, and the session may carry more requests, as the first byte of the line is written.
+pub record DropsLine (span : Look) (place : ℕ) (old new : Sending) (answer : Put) (piece : List ℕ) : Type 0 where
+  pub goes_on : (count : ℕ) → old ≡ S.Line count → agrees (drop count close_line) piece ≡ true
+      → HoldsMore count new answer piece
+  pub finds : (head : grammar.RequestHead) → IsRequestWith head span.given → end_of_request head ≢ E.Chunked
+      → persists head ≡ true → place < most_places → FindsLine (asks_head head) span.taken new answer piece
+
 -- THE NEXT SPAN of a connection: it begins where this one ended, behind a whole request and behind what is kept
 -- of its response, and shows none of either
 pub record GoesBehind (span next : Look) : Type 0 where
@@ -56,17 +74,17 @@ pub record GoesBehind (span next : Look) : Type 0 where
   pub name : next.name ≡ span.name
 
 -- THE FIRST SPAN of a connection, made of this client
-pub record IsNew {C : Type 0} (look : C → Look) (client : C) (s : Course C) : Type 0 where
+pub record IsNew {C : Type 0} (look : C → Look) (tells : Bool) (client : C) (s : Course C) : Type 0 where
   pub client_is : s.client ≡ client
   pub request_is : s.request ≡ fresh_request []
   pub response_is : s.response ≡ fresh_response
   pub place_is : s.place ≡ 1
   pub no_reads : s.reads ≡ 0
   pub no_writes : s.writes ≡ 0
-  pub gave : (span_look look s).before.0 ≡ (look client).before.0 ++ (look client).given
-  pub took : (span_look look s).before.1 ≡ (look client).before.1 ++ (look client).taken
-  pub no_given : (span_look look s).given ≡ []
-  pub no_taken : (span_look look s).taken ≡ []
+  pub gave : (span_look look tells s).before.0 ≡ (look client).before.0 ++ (look client).given
+  pub took : (span_look look tells s).before.1 ≡ (look client).before.1 ++ (look client).taken
+  pub no_given : (span_look look tells s).given ≡ []
+  pub no_taken : (span_look look tells s).taken ≡ []
 
 -- a poll of a span, which gives nothing and is no read of it
 pub record PollsSpan (tells : Bool) (old new : Look) (failed waited : Bool) : Type 0 where

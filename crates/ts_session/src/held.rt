@@ -1,9 +1,10 @@
 //! The bytes that a client gave and that were not given on yet.
 ghost use Rattle.std.specs.Prelude.{◌≡◌, ◌<◌, ◌≤◌, ◌++◌, ◌-◌, [], length, min, take, true, false, slice_range, IfOk};
 ghost use Rattle.ts_link.specs.LinkAnswers.{count_got};
-ghost use Rattle.ts_session.specs.Held.{CopiesMost, FillsFrom, GivesFront, ReadsBehind};
+ghost use Rattle.ts_session.specs.Held.{CannotEnd, CopiesMost, FillsFrom, GivesFront, ReadsBehind};
 ghost use Rattle.ts_wire.specs.Limits.{head_limit};
 
+use crate::blank::blank_len;
 use std::alloc::Global;
 use std::marker::Model;
 use ts_link::{Got, Link, NoMemory};
@@ -15,6 +16,8 @@ pub struct Held {
     room: Vec<u8>,
     from: usize,
     to: usize,
+    // How many of these bytes are known to be of empty lines ahead of a head.
+    blank: usize,
 }
 
 impl Model for Held {
@@ -22,12 +25,14 @@ impl Model for Held {
 
     ghost Value = { List ℕ };
 
-    ghost use Rattle.std.specs.Prelude.{◌≡◌, ◌≤◌, length, slice_range};
+    ghost use Rattle.std.specs.Prelude.{◌≡◌, ◌≤◌, ◌-◌, drop, length, slice_range, take};
     ghost use Rattle.ts_wire.specs.Limits.{head_limit};
+    ghost use Rattle.ts_session.specs.Held.{AreBlank};
 
     ghost view = { λ h. slice_range h.room.items h.from h.to };
 
-    ghost invariant = { λ h. (length h.room.items ≡ head_limit) × (h.from ≤ h.to) × (h.to ≤ head_limit) };
+    ghost invariant = { λ h. (length h.room.items ≡ head_limit) × (h.from ≤ h.to) × (h.to ≤ head_limit)
+        × (h.blank ≤ h.to - h.from) × AreBlank (take h.blank (drop h.from h.room.items)) };
 }
 
 // The room for as many bytes as a head may have.
@@ -99,6 +104,7 @@ impl Held {
             room,
             from: 0,
             to: 0,
+            blank: 0,
         })
     }
 
@@ -135,6 +141,7 @@ impl Held {
         let got = read_behind(client, &mut self.room, len);
         self.from = 0;
         self.to = len + count_of(got);
+        self.blank = blank_len(&self.room, self.blank, self.to);
         got
     }
 
@@ -145,6 +152,24 @@ impl Held {
         let held = &self.room[self.from..self.to];
         let count = copy_most(held, into, most);
         self.from += count;
+        self.blank = 0;
         count
+    }
+
+    // Whether a head may end within the last `fresh` bytes that are held, or no more of it can be held. A head
+    // ends with a line feed, and not among the empty lines ahead of it. So one that comes byte by byte is read
+    // once a line, and not at each byte nor at each of the empty lines.
+    pub(crate) fn may_end(&self, fresh: usize) -> bool
+        requires { fresh ≤ length self.now }
+        ensures { result ≡ false → CannotEnd fresh self.now }
+    {
+        let len = self.to - self.from;
+        if len == MAX_HEAD {
+            return true;
+        }
+        if self.blank == len {
+            return false;
+        }
+        self.room[self.to - fresh..self.to].contains(&b'\n')
     }
 }

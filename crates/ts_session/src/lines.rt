@@ -1,8 +1,9 @@
 //! The lines of a response's head as they are written, however they are cut.
-ghost use Rattle.std.specs.Prelude.{◌≡◌, ◌≢◌, ◌∷◌, ◌+◌, ◌++◌, ◌||◌, ◌<◌, ◌≤◌, ℕ, List, [], false, true, length, min};
+ghost use Rattle.std.specs.Prelude.{◌≡◌, ◌≢◌, ◌∷◌, ◌+◌, ◌++◌, ◌||◌, ◌&&◌, ◌<◌, ◌≤◌, ℕ, List, [], drop, false, true, length, min};
+ghost use Rattle.ts_session.specs.Kept.{close_line};
 ghost use Rattle.ts_link.specs.Texts.{line_feed};
-ghost use Rattle.ts_session.specs.Lines.{GoesOver, IsFront, agrees, front_bodiless, front_last, front_tells};
-ghost use Rattle.ts_session.specs.Lines.{may_drop_at, new_front, new_lines};
+ghost use Rattle.ts_session.specs.Lines.{GoesOver, IsFront, PassesNoLine, agrees, front_bodiless, front_last};
+ghost use Rattle.ts_session.specs.Lines.{front_tells, may_drop_at, new_front, new_lines};
 
 /// How many bytes at the front of a line are looked at.
 pub const LINE_FRONT: usize = 28;
@@ -65,6 +66,13 @@ fn is_either(a: bool, b: bool) -> bool
     ensures { result ≡ a || b }
 {
     a || b
+}
+
+// Whether the bytes go with the text: one of them begins with the other.
+pub(crate) fn goes_with(text: &[u8], bytes: &[u8]) -> bool
+    ensures { result ≡ agrees text.now bytes.now }
+{
+    is_either(bytes.starts_with(text), text.starts_with(bytes))
 }
 
 // How many bytes of a line are counted with one more.
@@ -211,16 +219,35 @@ impl Lines {
         lines
     }
 
-    // How many of the bytes are written before a line that may be dropped: all of them, where there is none.
+    // Whether a line that may be dropped begins here, and the bytes have it or a front of it.
+    pub(crate) fn finds(self, bytes: &[u8], asks_head: bool) -> bool
+        ensures { result ≡ may_drop_at self asks_head && agrees close_line bytes.now }
+    {
+        self.may_drop(asks_head) && goes_with(CLOSE_LINE, bytes)
+    }
+
+    // Whether such a line begins at this place of the bytes, which is not their first.
+    fn finds_at(self, bytes: &[u8], at: usize, asks_head: bool) -> bool
+        requires { at ≤ length bytes.now }
+        ensures some { result ≡ true → 0 < at }
+        ensures none { result ≡ false → 0 < at
+            → may_drop_at self asks_head && agrees close_line (drop at bytes.now) ≡ false }
+    {
+        at > 0 && self.finds(bytes.split_at(at).1, asks_head)
+    }
+
+    // How many of the bytes are written before a line that may be dropped, or a front of it: all of them, where
+    // there is none.
     pub(crate) fn passing(self, bytes: &[u8], asks_head: bool) -> usize
         requires { 0 < length bytes.now }
         ensures some { 0 < result }
         ensures within { result ≤ length bytes.now }
+        ensures no_line { PassesNoLine asks_head self bytes.now result }
     {
         let mut lines = self;
         let mut at = 0;
-        while at < bytes.len() {
-            if at > 0 && lines.may_drop(asks_head) && bytes[at..].starts_with(CLOSE_LINE) {
+        'bytes: while at < bytes.len() {
+            if lines.finds_at(bytes, at, asks_head) {
                 return at;
             }
             if lines.ended {

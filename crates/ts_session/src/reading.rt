@@ -32,8 +32,8 @@ fn seek_once<C: Link>(client: &mut C, request: &mut Request) -> Sought
     ensures goes { C.goes client.old client.new }
 {
     match request.held.fill(client) {
-        Got::Bytes(_) => {
-            request.decide();
+        Got::Bytes(count) => {
+            request.decide(count);
             Sought::On
         }
         Got::End => {
@@ -168,8 +168,8 @@ pub(crate) fn poll_request<C: Link>(client: &mut C, request: &mut Request) -> Po
         return Polled::Some;
     }
     match request.held.fill(client) {
-        Got::Bytes(_) => {
-            request.decide();
+        Got::Bytes(count) => {
+            request.decide(count);
             Polled::Some
         }
         Got::End => {

@@ -2,6 +2,8 @@
 ghost use Rattle.std.specs.Prelude.{◌≡◌, ◌≤◌, [], length, IfOk};
 ghost use Rattle.ts_session.specs.Course.{fresh_request, is_head};
 ghost use Rattle.ts_session.specs.Finding.{Decides, IsHeadFound};
+ghost use Rattle.ts_session.specs.Held.{before_last};
+ghost use Rattle.ts_wire.specs.Heads.{LacksRequest};
 ghost use Rattle.ts_wire.specs.Limits.{head_limit};
 
 use crate::finding::{Found, FoundHead, find_request};
@@ -56,7 +58,8 @@ impl Request {
             persists: false,
             asks_head: false,
         };
-        request.decide();
+        let fresh = request.held.len();
+        request.decide(fresh);
         request
     }
 
@@ -83,11 +86,16 @@ impl Request {
         }
     }
 
-    // Looks whether it is known by now where it ends.
-    pub(crate) fn decide(&mut self)
-        requires { self.old.reading ≡ Reading.Head }
+    // Looks whether it is known by now where it ends, once `fresh` more bytes of it came.
+    pub(crate) fn decide(&mut self, fresh: usize)
+        requires head { self.old.reading ≡ Reading.Head }
+        requires fresh { fresh ≤ length self.old.held }
+        requires lacks { LacksRequest (before_last fresh self.old.held) }
         ensures { Decides self.old self.new self.new.reading }
     {
+        if !self.held.may_end(fresh) {
+            return;
+        }
         match find_request(self.held.bytes()) {
             Found::More => {}
             Found::Never => self.reading = Reading::Open,

@@ -1,23 +1,23 @@
 //! A link that shows one request of a client, and then its end.
 ghost use Rattle.std.specs.Prelude.{◌≡◌, ◌+◌, ◌<◌, ◌≤◌, length, true, IfOk};
 ghost use Rattle.ts_link.specs.Counts.{one_more};
-ghost use Rattle.ts_link.specs.Link.{Reads, Writes};
+ghost use Rattle.ts_link.specs.Link.{Reads, Writes, all_of};
 ghost use Rattle.ts_link.specs.LinkAnswers.{writes_after};
-ghost use Rattle.ts_session.specs.Course.{GoesOnBehind, IsSound, SpanGoes, is_dropped, span_look};
-ghost use Rattle.ts_session.specs.Course.{span_on, span_same, span_still};
+ghost use Rattle.ts_session.specs.Course.{IsSound, SpanGoes, is_dropped, may_go_on, span_look, span_on, span_same};
+ghost use Rattle.ts_session.specs.Course.{span_still, waiting};
 ghost use Rattle.ts_session.specs.Limits.{most_places};
 ghost use Rattle.ts_session.specs.Reading.{IsUnread, PollsHeld, StaysUnread, poll_again, poll_failed};
-ghost use Rattle.ts_session.specs.Session.{GoesBehind, IsNew, IsSession, MayContinue, PollsSpan};
+ghost use Rattle.ts_session.specs.Session.{DropsLine, GoesBehind, IsNew, IsNext, IsSession, MayContinue, PollsSpan};
 
 use crate::course::{Course, MOST_PLACES, Polled};
 use crate::reading::{poll_request, read_request};
 use crate::request::{Reading, Request};
 use crate::response::Response;
-use crate::writing::write_response;
+use crate::writing::{Rule, write_response};
 use std::alloc::Global;
 use std::marker::Model;
 use std::snapshot::Snapshot;
-use ts_link::{Got, Link, NoMemory, Put};
+use ts_link::{Got, Link, NoMemory, Put, Sourced};
 
 /// A client's link that shows one request of its connection, the body included, and then the end. Of what is
 /// written to it the client does not take the line `connection: close` where the connection may go on.
@@ -41,7 +41,7 @@ impl<C: Link + Drop> Span<C> {
     /// The span of a client's first request. It takes all the memory that it and the spans behind it ever need:
     /// the room of a head of 16,384 bytes.
     pub fn make(alloc: Global, client: C) -> Result<Span<C>, NoMemory>
-        ensures { IfOk result (λ s. IsNew C.look client s) }
+        ensures { IfOk result (λ s. IsNew C.look C.tells client s) }
     {
         let request = Request::make(alloc)?;
         let begun = Snapshot::of(&client);
@@ -66,8 +66,8 @@ impl<C: Link + Drop> Span<C> {
     pub fn poll(&mut self) -> Polled
         requires unread { IsUnread self.old.request }
         ensures holds { PollsHeld C.tells result self.new.request (C.look self.new.client) }
-        ensures shows { PollsSpan C.tells (span_look C.look self.old) (span_look C.look self.new)
-            (poll_failed result) (poll_again result) }
+        ensures shows { PollsSpan C.tells (span_look C.look C.tells self.old)
+            (span_look C.look C.tells self.new) (poll_failed result) (poll_again result) }
         ensures unread { StaysUnread result self.new.request }
         ensures goes { SpanGoes C.goes self.old self.new }
     {
@@ -78,7 +78,7 @@ impl<C: Link + Drop> Span<C> {
     pub fn may_continue(&self) -> bool
         ensures dropped { result ≡ is_dropped self.now.response.sending }
         ensures rule { C.tells ≡ true → result ≡ true
-            → MayContinue (span_look C.look self.now) self.now.place }
+            → MayContinue (span_look C.look C.tells self.now) self.now.place }
     {
         self.course.response.is_dropped()
     }
@@ -86,7 +86,8 @@ impl<C: Link + Drop> Span<C> {
     /// The span of the next request, which begins where this one ended. It takes no memory.
     pub fn next(self) -> Span<C>
         requires { is_dropped self.response.sending ≡ true }
-        ensures behind { C.tells ≡ true → GoesBehind (span_look C.look self) (span_look C.look result) }
+        ensures behind { C.tells ≡ true
+            → GoesBehind (span_look C.look C.tells self) (span_look C.look C.tells result) }
         ensures client { result.client ≡ self.client }
         ensures place { result.place ≡ self.place + 1 }
         ensures within { result.place ≤ most_places }
@@ -99,15 +100,27 @@ impl<C: Link + Drop> Span<C> {
     }
 
     /// The client inside. It gave what came before the request, then the request, and took what came before the
-    /// response, then the response without the line that was dropped.
+    /// response, then the response without the line that was dropped. Where the head of a response was cut within
+    /// a line that might have been dropped, it lacks the front of that line.
     pub fn into_client(self) -> C
         ensures client { result ≡ self.client }
-        ensures session { C.tells ≡ true → IsSession (span_look C.look self)
-            (is_dropped self.response.sending) (C.look result) }
+        ensures session { C.tells ≡ true → IsSession (span_look C.look C.tells self)
+            (is_dropped self.response.sending) (waiting self.response.sending) (C.look result) }
     {
         let Span { course } = self;
         let Course { client, .. } = course;
         client
+    }
+}
+
+impl<C: Sourced> Span<C> {
+    /// What holds of every one whose client tells, and whose source is all that it gives: what the span gave and may
+    /// still give is the whole request that its source begins with, or all of it.
+    pub fn known(&self)
+        ensures { C.tells ≡ true → IsNext (span_look C.look C.tells self.now).source
+            (all_of (span_look C.look C.tells self.now)) }
+    {
+        self.course.client.known();
     }
 }
 
@@ -116,8 +129,8 @@ fn poll_course<C: Link>(course: &mut Course<C>) -> Polled
     requires sound { IsSound C.look C.tells course.old }
     requires unread { IsUnread course.old.request }
     ensures holds { PollsHeld C.tells result course.new.request (C.look course.new.client) }
-    ensures shows { PollsSpan C.tells (span_look C.look course.old) (span_look C.look course.new)
-        (poll_failed result) (poll_again result) }
+    ensures shows { PollsSpan C.tells (span_look C.look C.tells course.old)
+        (span_look C.look C.tells course.new) (poll_failed result) (poll_again result) }
     ensures unread { StaysUnread result course.new.request }
     ensures goes { SpanGoes C.goes course.old course.new }
     ensures sound { IsSound C.look C.tells course.new }
@@ -136,7 +149,8 @@ fn counted(calls: u64) -> u64
 fn read_course<C: Link>(course: &mut Course<C>, into: &mut [u8]) -> Got
     requires room { 0 < length into.old }
     requires sound { IsSound C.look C.tells course.old }
-    ensures reads { Reads C.tells (span_look C.look course.old) (span_look C.look course.new) result into.new }
+    ensures reads { Reads C.tells (span_look C.look C.tells course.old)
+        (span_look C.look C.tells course.new) result into.new }
     ensures goes { SpanGoes C.goes course.old course.new }
     ensures sound { IsSound C.look C.tells course.new }
 {
@@ -149,7 +163,7 @@ fn read_course<C: Link>(course: &mut Course<C>, into: &mut [u8]) -> Got
 // Whether the line `connection: close` may be dropped, if its head tells where the response ends: the request was
 // given whole, its client lets the connection go on, and the session may carry more requests.
 fn may_go_on(request: &Request, place: u32) -> bool
-    ensures { result ≡ true → GoesOnBehind request.now place }
+    ensures { result ≡ may_go_on request.now place }
 {
     match request.reading {
         Reading::Known(0) => request.persists && place < MOST_PLACES,
@@ -171,18 +185,22 @@ fn writes_after(put: Put, writes: u64) -> u64
 fn write_course<C: Link>(course: &mut Course<C>, piece: &[u8]) -> Put
     requires some { 0 < length piece.now }
     requires sound { IsSound C.look C.tells course.old }
-    ensures writes { Writes C.tells (span_look C.look course.old) (span_look C.look course.new)
-        result piece.now }
+    ensures writes { Writes C.tells (span_look C.look C.tells course.old)
+        (span_look C.look C.tells course.new) result piece.now }
+    ensures line { C.tells ≡ true → DropsLine (span_look C.look C.tells course.old) course.old.place
+        course.old.response.sending course.new.response.sending result piece.now }
     ensures goes { SpanGoes C.goes course.old course.new }
     ensures sound { IsSound C.look C.tells course.new }
 {
-    let may = may_go_on(&course.request, course.place);
+    let rule = Rule {
+        may_go_on: may_go_on(&course.request, course.place),
+        asks_head: course.request.asks_head,
+    };
     let put = write_response(
         &mut course.client,
         &mut course.response,
         &mut course.cut,
-        may,
-        course.request.asks_head,
+        rule,
         piece,
     );
     let writes = writes_after(put, course.writes);
@@ -194,7 +212,8 @@ fn write_course<C: Link>(course: &mut Course<C>, piece: &[u8]) -> Put
 fn next_course<C: Link>(course: Course<C>) -> Course<C>
     requires sound { IsSound C.look C.tells course }
     requires dropped { is_dropped course.response.sending ≡ true }
-    ensures behind { C.tells ≡ true → GoesBehind (span_look C.look course) (span_look C.look result) }
+    ensures behind { C.tells ≡ true
+        → GoesBehind (span_look C.look C.tells course) (span_look C.look C.tells result) }
     ensures client { result.client ≡ course.client }
     ensures place { result.place ≡ course.place + 1 }
     ensures within { result.place ≤ most_places }
@@ -228,7 +247,7 @@ fn next_course<C: Link>(course: Course<C>) -> Course<C>
 impl<C: Link> Link for Span<C> {
     ghost tells = { C.tells };
 
-    ghost look = { span_look C.look };
+    ghost look = { span_look C.look C.tells };
 
     ghost goes = { SpanGoes C.goes };
 
@@ -238,7 +257,14 @@ impl<C: Link> Link for Span<C> {
         read_course(&mut self.course, into)
     }
 
-    fn write(&mut self, piece: &[u8]) -> Put {
+    fn write(&mut self, piece: &[u8]) -> Put
+        requires { 0 < length piece.now }
+        ensures writes { Writes C.tells (span_look C.look C.tells self.old)
+            (span_look C.look C.tells self.new) result piece.now }
+        ensures goes { SpanGoes C.goes self.old self.new }
+        ensures line { C.tells ≡ true → DropsLine (span_look C.look C.tells self.old) self.old.place
+            self.old.response.sending self.new.response.sending result piece.now }
+    {
         write_course(&mut self.course, piece)
     }
 

@@ -96,8 +96,13 @@ fn two_requests_of_one_piece_are_carried_one_behind_the_other(rt: HostRuntime) {
         taken: 110,
     };
     for (piece, most) in [(54u32, 100usize), (1, 1), (20, 20), (27, 55)] {
-        let got = carry(&rt, &input, paced(piece, most), 4096);
-        assert!(&rt; got == wanted, "in pieces of {piece}, {most} a write");
+        for part in [4096usize, 1, 2, 17, 19, 40, 53, 54, 55, 71, 72] {
+            let got = carry(&rt, &input, paced(piece, most), part);
+            assert!(&rt;
+                got == wanted,
+                "in pieces of {piece}, {most} a write, parts of {part}"
+            );
+        }
     }
 }
 

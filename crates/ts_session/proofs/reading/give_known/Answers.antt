@@ -1,5 +1,5 @@
 -- No more is given than the request has left.
-use Rattle.std.proofs.Common.{ℕ, ◌-◌, ◌<◌, arith, subst, sym}
+use Rattle.std.proofs.Common.{ℕ, ◌-◌, arith, subst, sym}
 use Rattle.ts_session.specs.Reading.{Shows}
 use Rattle.ts_session.specs.declared.request.Reading.TheVariants as R
 use Rattle.ts_session.proofs.Giving.{known_ended, known_given}

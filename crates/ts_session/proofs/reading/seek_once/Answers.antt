@@ -1,10 +1,20 @@
 -- Each answer of one read of the client for the head.
-use Rattle.ts_session.proofs.Giving.{filled_ended, filled_fails, filled_known, filled_waits}
+use Rattle.ts_session.proofs.Giving.{filled_ended, filled_fails, filled_fresh, filled_known, filled_waits}
 use Rattle.ts_session.proofs.Giving.{head_holds}
 use Rattle.ts_session.proofs.reading.seek_once.Goals as goal
 
 pub fill-requires : goal.fill-requires
 fill-requires g c = (head_holds c.args.request.now c.requires.head c.requires.room).1
+
+pub decide-requires-clause-fresh : goal.decide-requires-clause-fresh
+decide-requires-clause-fresh g c =
+    (filled_fresh g.C.Link.tells c.args.request.now c.fill.new.self (g.C.Link.look c.args.client.now)
+    (g.C.Link.look c.fill.new.client) c.requires.head c.requires.room c.in-Bytes.count c.in-Bytes.ensures.fills).0
+
+pub decide-requires-clause-lacks : goal.decide-requires-clause-lacks
+decide-requires-clause-lacks g c =
+    (filled_fresh g.C.Link.tells c.args.request.now c.fill.new.self (g.C.Link.look c.args.client.now)
+    (g.C.Link.look c.fill.new.client) c.requires.head c.requires.room c.in-Bytes.count c.in-Bytes.ensures.fills).1
 
 pub returns-in-Bytes-clause-moves : goal.returns-in-Bytes-clause-moves
 returns-in-Bytes-clause-moves g c =

@@ -1,5 +1,5 @@
 -- Each text is held against one byte more.
-use Rattle.std.proofs.Common.{[], arith, length, length-append, ◌∷◌, ◌++◌}
+use Rattle.std.proofs.Common.{[], arith, length, length-append, ◌∷◌}
 use Rattle.ts_session.proofs.lines.LineFront.go_on.Goals as goal
 
 pub returns : goal.returns

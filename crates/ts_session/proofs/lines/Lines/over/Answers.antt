@@ -1,5 +1,5 @@
 -- Byte by byte, until the head has ended.
-use Rattle.std.proofs.Common.{[], get_or, subst, sym, take, ◌+◌, ◌∷◌, ◌++◌, ◌∙◌, take-append-drop, drop}
+use Rattle.std.proofs.Common.{[], get_or, subst, sym, take, ◌∷◌, take-append-drop, drop}
 use Rattle.std.proofs.lemmas.Grind.{take_at_read}
 use Rattle.std.proofs.lemmas.List.{take_all}
 use Rattle.ts_session.specs.Lines.{GoesOver}

@@ -1,6 +1,6 @@
 -- The first span of a connection.
 use Rattle.std.proofs.Common.{refl}
-use Rattle.ts_session.proofs.Ends.{first_new, first_sound}
+use Rattle.ts_session.proofs.Ends.{first_sound}
 use Rattle.ts_session.proofs.span.Span.make.Goals as goal
 
 pub invariant_of-result : goal.invariant_of-result
