@@ -96,11 +96,11 @@ pub fn question_about(
     HookQuestion { hook, host, fields }
 }
 
-/// The group of a plugin that was asked in its first turn, and its reply.
+/// The group of a plugin that was asked in its first turn, and its reply, but where memory lacked for it.
 #[derive(Drop)]
 pub struct Replied {
     pub group: Group<Plugin>,
-    pub reply: HookReply,
+    pub reply: Result<HookReply, NoMemory>,
 }
 
 /// The plugin of a line, which is made and asked at a moment in a group of its own.
@@ -112,13 +112,20 @@ pub fn ask_at(
 ) -> Result<Replied, NoMemory> {
     let plugin = Plugin::make(alloc, line)?;
     let mut group = Group::make(alloc, plugin, 0)?;
-    group.begin_turn(1, ONLY_SEAT, 0)?;
+    let Ok(()) = group.begin_turn(1, ONLY_SEAT, 0) else {
+        let reply = Err(NoMemory);
+        return Ok(Replied { group, reply });
+    };
     match group.ask(question, moment) {
         Ok(reply) => {
             group.give_turn();
+            let reply = Ok(reply);
             Ok(Replied { group, reply })
         }
-        Err((refusal, _question)) => Err(refusal),
+        Err((refusal, _question)) => {
+            let reply = Err(refusal);
+            Ok(Replied { group, reply })
+        }
     }
 }
 
@@ -129,7 +136,7 @@ pub fn ask(
     question: HookQuestion,
 ) -> Result<HookReply, NoMemory> {
     let Replied { group: _, reply } = ask_at(alloc, line, question, 0)?;
-    Ok(reply)
+    reply
 }
 
 /// What a reply says.

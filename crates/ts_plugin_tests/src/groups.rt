@@ -1,6 +1,6 @@
 //! The plugin of a line in a group: what its journal records of a question.
 
-use crate::asking::{MEMORY, Outcome, ask_at, deny_line, outcome_of, question_for};
+use crate::asking::{MEMORY, Outcome, Replied, ask_at, deny_line, outcome_of, question_for};
 use ts_group::{Group, ONLY_SEAT, OWN_KEY};
 use ts_hooks::Hook;
 use ts_journal::{Entry, Event};
@@ -36,9 +36,9 @@ fn has_recorded(group: &Group<Plugin>, entries: &[Entry]) -> bool {
 fn a_question_is_recorded_and_leaves_nothing_pending(rt: HostRuntime) {
     let line = deny_line(rt.alloc(), &[b"b"]).expect(&rt, MEMORY);
     let question = question_for(rt.alloc(), Hook::OsDns, b"B:80").expect(&rt, MEMORY);
-    let replied = ask_at(rt.alloc(), &line, question, 5).expect(&rt, MEMORY);
-    let outcome = outcome_of(&replied.reply);
-    let recorded = has_recorded(&replied.group, OF_A_QUESTION);
+    let Replied { group, reply } = ask_at(rt.alloc(), &line, question, 5).expect(&rt, MEMORY);
+    let outcome = outcome_of(&reply.expect(&rt, MEMORY));
+    let recorded = has_recorded(&group, OF_A_QUESTION);
     asked_in_order();
     assert_eq!(rt; (outcome, recorded), (Outcome::Refused, true));
 }

@@ -5,14 +5,15 @@ ghost use Rattle.ts_toys.specs.declared.peer.TheConstants.{MOST_TODO};
 ghost use Rattle.ts_thread.specs.declared.TheConstants.{MOST_THREADS};
 ghost use Rattle.ts_thread_tests.specs.declared.crowd.TheConstants.{MOST_CROWD};
 
-use crate::row::BUDGET;
+use crate::row::{BUDGET, MEMORY};
 use crate::toys::{ToyRow, make_toys};
 use std::alloc::Global;
+use std::process::Abort;
 use std::sync::Wait;
 use std::thread::Threads;
 use ts_group::Group;
 use ts_journal::Entry;
-use ts_link::{NoMemory, OpenGate};
+use ts_link::OpenGate;
 use ts_thread::{Plan, run_groups};
 use ts_toys::toy::Toy;
 
@@ -20,27 +21,27 @@ use ts_toys::toy::Toy;
 pub const MOST_CROWD: u32 = 4096;
 
 /// Runs a crowd of toy worlds by so many threads.
-pub fn run_crowd<W: Toy + Drop + Send, R: Threads + Wait + Sync>(
+pub fn run_crowd<W: Toy + Drop + Send, R: Abort + Threads + Wait + Sync>(
     rt: &R,
     alloc: Global,
     count: u32,
     todo: u32,
     threads: u32,
-) -> Result<Vec<Group<W>>, NoMemory>
+) -> Vec<Group<W>>
 where
     W::Tag: Drop,
     requires todo { todo ≤ MOST_TODO }
     requires count { (0 < count) × (count ≤ MOST_CROWD) }
     requires threads { (0 < threads) × (threads ≤ MOST_THREADS) }
 {
-    let ToyRow { groups, tags } = make_toys(alloc, count, todo)?;
+    let ToyRow { groups, tags } = make_toys(rt, alloc, count, todo);
     let gate = OpenGate::make();
     let plan = Plan {
         starts: count,
         threads,
         budget: BUDGET,
     };
-    run_groups(rt, alloc, groups, tags, plan, &gate)
+    run_groups(rt, alloc, groups, tags, plan, &gate).expect(rt, MEMORY)
 }
 
 /// What a crowd of toy worlds did.

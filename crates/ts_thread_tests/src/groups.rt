@@ -3,6 +3,7 @@
 ghost use Rattle.std.specs.Prelude.{◌≡◌, false};
 ghost use Rattle.ts_group.specs.Answers.{Holds};
 
+use crate::row::MEMORY;
 use std::process::Abort;
 use ts_group::{Action, Cancel, Destroy, Group, Handling, World};
 use ts_journal::{ContKey, Counts, Entry, Event};
@@ -14,9 +15,6 @@ use ts_toys::peer::{ASKED, new_peer};
 use ts_toys::recorded::visit;
 use ts_toys::steps::{Countdown, Stepper};
 use ts_toys::toy::Toy;
-
-// What a test that wants memory says.
-const MEMORY: &str = "ample memory";
 
 // What a test says whose group stands otherwise than it is to.
 const OTHERWISE: &str = "the group stands as the test wants it";

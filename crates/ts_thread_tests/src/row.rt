@@ -8,16 +8,20 @@ ghost use Rattle.ts_thread_tests.specs.Peers.{IsPeer, AreRow, row_tags};
 ghost use Rattle.ts_thread_tests.specs.ToyRows.{HasEnded};
 
 use std::alloc::Global;
+use std::process::Abort;
 use std::sync::Wait;
 use std::thread::Threads;
 use ts_group::Group;
 use ts_journal::Entry;
-use ts_link::{Gate, NoMemory};
+use ts_link::Gate;
 use ts_thread::{ONLY_SEAT, Plan, Unfinished, finish_within, run_whole};
 use ts_toys::peer::{ASKED, MOST_TODO, Peer, new_peer};
 
 /// How many turns each thread takes at most.
 pub(crate) const BUDGET: u64 = 1_000_000;
+
+/// What a test that wants memory says.
+pub(crate) const MEMORY: &str = "ample memory";
 
 /// What stands at the end.
 #[derive(Clone, Copy, Debug, PartialEq, Eq)]
@@ -34,53 +38,53 @@ pub struct Tally {
 
 // Starts a peer in its first turn.
 #[tactic(auto, using(crate::proofs::Ends::still_first))]
-fn start_worker(mut group: Group<Peer>) -> Result<Group<Peer>, NoMemory>
+fn start_worker(rt: &impl Abort, mut group: Group<Peer>) -> Group<Peer>
     requires fits { IsPeer false group }
     requires new { group.cx.log.state.turns ≡ 0 }
-    ensures fits { IfOk result (λ g. IsPeer false g) }
-    ensures few { IfOk result (λ g. g.cx.log.state.turns ≤ 1) }
+    ensures fits { IsPeer false result }
+    ensures few { result.cx.log.state.turns ≤ 1 }
 {
-    group.begin_turn(1, ONLY_SEAT, 0)?;
+    group.begin_turn(1, ONLY_SEAT, 0).expect(rt, MEMORY);
     group.start();
     group.give_turn();
-    Ok(group)
+    group
 }
 
 // A peer that works by itself or asks, and was started or not.
-fn make_worker(alloc: Global, asks: bool, todo: u32, started: bool) -> Result<Group<Peer>, NoMemory>
+fn make_worker(rt: &impl Abort, alloc: Global, asks: bool, todo: u32, started: bool) -> Group<Peer>
     requires { todo ≤ MOST_TODO }
-    ensures fits { IfOk result (λ g. IsPeer false g) }
-    ensures few { IfOk result (λ g. g.cx.log.state.turns ≤ 1) }
-    ensures new { started ≡ false → IfOk result (λ g. g.cx.log.state.turns ≤ 0) }
+    ensures fits { IsPeer false result }
+    ensures few { result.cx.log.state.turns ≤ 1 }
+    ensures new { started ≡ false → result.cx.log.state.turns ≤ 0 }
 {
-    let group = new_peer(alloc, false, asks, todo)?;
+    let group = new_peer(alloc, false, asks, todo).expect(rt, MEMORY);
     if started {
-        return start_worker(group);
+        return start_worker(rt, group);
     }
-    Ok(group)
+    group
 }
 
 // A peer that is only asked.
-fn make_asked(alloc: Global) -> Result<Group<Peer>, NoMemory>
-    ensures fits { IfOk result (λ g. IsPeer true g) }
-    ensures new { IfOk result (λ g. g.cx.log.state.turns ≤ 0) }
+fn make_asked(rt: &impl Abort, alloc: Global) -> Group<Peer>
+    ensures fits { IsPeer true result }
+    ensures new { result.cx.log.state.turns ≤ 0 }
 {
-    new_peer(alloc, true, false, 0)
+    new_peer(alloc, true, false, 0).expect(rt, MEMORY)
 }
 
 /// A row of peers with so many steps each, of which every other one asks. They were started or not.
-pub fn make_row(alloc: Global, todo: u32, started: bool) -> Result<Vec<Group<Peer>>, NoMemory>
+pub fn make_row(rt: &impl Abort, alloc: Global, todo: u32, started: bool) -> Vec<Group<Peer>>
     requires { todo ≤ MOST_TODO }
-    ensures row { IfOk result (λ gs. AreRow 1 gs.items) }
-    ensures new { started ≡ false → IfOk result (λ gs. AreRow 0 gs.items) }
+    ensures row { AreRow 1 result.items }
+    ensures new { started ≡ false → AreRow 0 result.items }
 {
     let mut groups = Vec::new(alloc);
     'workers: for place in 0..ASKED {
-        let group = make_worker(alloc, place % 2 == 0, todo, started)?;
-        groups.push(group)?;
+        let group = make_worker(rt, alloc, place % 2 == 0, todo, started);
+        groups.push(group).expect(rt, MEMORY);
     }
-    groups.push(make_asked(alloc)?)?;
-    Ok(groups)
+    groups.push(make_asked(rt, alloc)).expect(rt, MEMORY);
+    groups
 }
 
 /// Drives a row to its end on this thread. No group has more turns than this.
@@ -94,7 +98,7 @@ pub fn drive_row(groups: &mut Vec<Group<Peer>>, limit: u64) -> Result<(), Unfini
 }
 
 /// Runs a row that was not started by so many threads, and drives it to its end.
-pub fn run_row<G: Gate + Sync, R: Threads + Wait + Sync>(
+pub fn run_row<G: Gate + Sync, R: Abort + Threads + Wait + Sync>(
     rt: &R,
     alloc: Global,
     todo: u32,
@@ -106,8 +110,8 @@ pub fn run_row<G: Gate + Sync, R: Threads + Wait + Sync>(
     ensures ended { IfOk result (λ gs. All (HasEnded PeerCounted) gs.items) }
     ensures lacks { IsOkUnless result Unfinished.NoMemory }
 {
-    let groups = make_row(alloc, todo, false)?;
-    let tags = make_tags(alloc)?;
+    let groups = make_row(rt, alloc, todo, false);
+    let tags = make_tags(rt, alloc);
     let plan = Plan {
         starts: ASKED,
         threads,
@@ -117,15 +121,15 @@ pub fn run_row<G: Gate + Sync, R: Threads + Wait + Sync>(
 }
 
 /// The tags of a row.
-pub fn make_tags(alloc: Global) -> Result<Vec<bool>, NoMemory>
-    ensures { IfOk result (λ tags. tags.items ≡ row_tags ASKED) }
+pub fn make_tags(rt: &impl Abort, alloc: Global) -> Vec<bool>
+    ensures { result.items ≡ row_tags ASKED }
 {
     let mut tags = Vec::new(alloc);
     'workers: for _place in 0..ASKED {
-        tags.push(false)?;
+        tags.push(false).expect(rt, MEMORY);
     }
-    tags.push(true)?;
-    Ok(tags)
+    tags.push(true).expect(rt, MEMORY);
+    tags
 }
 
 /// What stands in a row at the end.

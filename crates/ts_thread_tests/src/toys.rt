@@ -5,12 +5,13 @@ ghost use Rattle.ts_toys.specs.declared.peer.TheConstants.{MOST_TODO};
 ghost use Rattle.ts_thread.specs.declared.TheConstants.{MOST_THREADS};
 ghost use Rattle.ts_thread_tests.specs.ToyRows.{AreToys, HasEnded};
 
-use crate::row::BUDGET;
+use crate::row::{BUDGET, MEMORY};
 use std::alloc::Global;
+use std::process::Abort;
 use std::sync::Wait;
 use std::thread::Threads;
 use ts_group::Group;
-use ts_link::{Gate, NoMemory, OpenGate};
+use ts_link::{Gate, OpenGate};
 use ts_thread::{Plan, Unfinished, run_whole};
 use ts_toys::toy::Toy;
 
@@ -24,27 +25,27 @@ pub struct ToyRow<W: Toy> {
 }
 
 /// So many groups of one toy world, with so much to do each.
-pub fn make_toys<W: Toy + Drop>(alloc: Global, count: u32, todo: u32) -> Result<ToyRow<W>, NoMemory>
+pub fn make_toys<W: Toy + Drop>(rt: &impl Abort, alloc: Global, count: u32, todo: u32) -> ToyRow<W>
 where
     W::Tag: Drop,
     requires { todo ≤ MOST_TODO }
-    ensures { IfOk result (λ row. AreToys W.fits W.sound W.only_asked W.is_first (W.tagged todo) count
-        row.tags.items row.groups.items) }
+    ensures { AreToys W.fits W.sound W.only_asked W.is_first (W.tagged todo) count
+        result.tags.items result.groups.items }
 {
     let mut groups = Vec::new(alloc);
     let mut tags = Vec::new(alloc);
     'toys: for _toy in 0..count {
-        let group = W::group(alloc, todo)?;
+        let group = W::group(alloc, todo).expect(rt, MEMORY);
         let tag = W::tag(todo);
-        groups.push(group)?;
-        tags.push(tag)?;
+        groups.push(group).expect(rt, MEMORY);
+        tags.push(tag).expect(rt, MEMORY);
     }
-    Ok(ToyRow { groups, tags })
+    ToyRow { groups, tags }
 }
 
 /// Runs a row of toy worlds by so many threads, and drives it to its end: then no event is pending in any
 /// group, and each world has counted its work, in whatever order the threads took their turns.
-pub fn run_toys<W: Toy + Drop + Send, G: Gate + Sync, R: Threads + Wait + Sync>(
+pub fn run_toys<W: Toy + Drop + Send, G: Gate + Sync, R: Abort + Threads + Wait + Sync>(
     rt: &R,
     alloc: Global,
     todo: u32,
@@ -59,7 +60,7 @@ where
     ensures ended { IfOk result (λ gs. All (HasEnded (W.counted todo)) gs.items) }
     ensures lacks { IsOkUnless result Unfinished.NoMemory }
 {
-    let ToyRow { groups, tags } = make_toys(alloc, TOYS, todo)?;
+    let ToyRow { groups, tags } = make_toys(rt, alloc, TOYS, todo);
     let plan = Plan {
         starts: TOYS,
         threads,
@@ -98,18 +99,18 @@ pub fn tally_of<W: Toy + Drop>(groups: &[Group<W>]) -> ToyTally {
 }
 
 /// What stands at the end of a row of toy worlds that so many threads ran.
-pub fn run_tally<W: Toy + Drop + Send, R: Threads + Wait + Sync>(
+pub fn run_tally<W: Toy + Drop + Send, R: Abort + Threads + Wait + Sync>(
     rt: &R,
     alloc: Global,
     todo: u32,
     threads: u32,
-) -> Result<ToyTally, Unfinished>
+) -> ToyTally
 where
     W::Tag: Drop,
     requires todo { todo ≤ MOST_TODO }
     requires threads { (0 < threads) × (threads ≤ MOST_THREADS) }
 {
     let gate = OpenGate::make();
-    let groups = run_toys::<W, OpenGate, R>(rt, alloc, todo, threads, &gate)?;
-    Ok(tally_of(&groups))
+    let groups = run_toys::<W, OpenGate, R>(rt, alloc, todo, threads, &gate).expect(rt, MEMORY);
+    tally_of(&groups)
 }

@@ -9,7 +9,7 @@ use Rattle.ts_thread_tests.proofs.crowd.run_crowd.Goals as goal
 pub run_groups-requires-clause-run : goal.run_groups-requires-clause-run
 run_groups-requires-clause-run g c κs within =
     let toy = g.met.W.Toy g.world.𝓛 g.world.𝓜 g.world.𝓡 ((λ s x. x), (λ x. x), (λ x. x), λ x. x) in
-    let are = c.in_ok-groups.ensures in
+    let are = c.make_toys-groups.ensures in
     let n = are.count_is in
     let some = c.requires.count.0 in
     let most = c.requires.count.1 in

@@ -3,4 +3,4 @@ use Rattle.ts_thread_tests.proofs.Ends.{workers_tags}
 use Rattle.ts_thread_tests.proofs.row.make_tags.Given as goal
 
 abbrev pub invariant-workers : goal.invariant-workers
-invariant-workers l = l.tags.items ≡ workers_tags l._place
+invariant-workers g l = l.tags.items ≡ workers_tags l._place

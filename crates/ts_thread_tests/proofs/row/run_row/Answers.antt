@@ -14,12 +14,12 @@ use Rattle.ts_thread_tests.proofs.row.run_row.Goals as goal
 
 pub run_whole-requires-clause-run : goal.run_whole-requires-clause-run
 run_whole-requires-clause-run g c κs within =
-    let row = c.in_ok-groups.ensures.new refl in
+    let row = c.make_row-groups.ensures.new refl in
     let n = row.count in
     let times : c.args.threads * (2 * BUDGET) ≤ MOST_THREADS * (2 * BUDGET) = mul-le c.args.threads
     (2 * BUDGET) MOST_THREADS (2 * BUDGET) c.requires.threads.1 (omega arith) in
     subst (λ ts. CanBeRun PeerFits PeerSound (λ b. b) (λ b. true) PeerMayAsk PeerRight PeerAnswers ts
-    c.in_ok-groups.groups.items ASKED c.args.threads BUDGET) (sym c.in_ok-tags.ensures) (record {
+    c.make_row-groups.result.items ASKED c.args.threads BUDGET) (sym c.make_tags-tags.ensures) (record {
       some = omega arith;
       few = omega arith;
       fits = row.fits;
@@ -35,7 +35,7 @@ run_whole-requires-clause-run g c κs within =
     })
 
 pub run_whole-requires-clause-tells : goal.run_whole-requires-clause-tells
-run_whole-requires-clause-tells g c κs within = peers_tell c.in_ok-tags.tags.items
+run_whole-requires-clause-tells g c κs within = peers_tell c.make_tags-tags.result.items
 
 pub returns-clause-ended : goal.returns-clause-ended
 returns-clause-ended g c =
@@ -43,7 +43,7 @@ returns-clause-ended g c =
     (λ gs ended.
     all_ended PeerFits PeerSound (λ b. b) (λ b. true) (λ b. Unit {0}) PeerCounted _ gs.items
     (λ t w s roles any fits sound none asks whole. sound.ends asks whole none)
-    (all_any c.in_ok-tags.tags.items) ended.fits ended.idle)
+    (all_any c.make_tags-tags.result.items) ended.fits ended.idle)
     c.run_whole.ensures.ended
 
 pub returns-clause-lacks : goal.returns-clause-lacks
@@ -52,5 +52,5 @@ returns-clause-lacks g c =
     (2 * BUDGET) MOST_THREADS (2 * BUDGET) c.requires.threads.1 (omega arith) in
     only_memory c.run_whole.result (c.run_whole.ensures.spares
     (subst (λ ts. EndSoon ℕ ℕ (Unit {0}) PeerFits PeerSound (λ b. b) (λ b. true) peer_left MOST_ALONE
-    (turns_of ASKED c.args.threads BUDGET) ts) (sym c.in_ok-tags.ensures)
+    (turns_of ASKED c.args.threads BUDGET) ts) (sym c.make_tags-tags.ensures)
     (peers_end MOST_ALONE (turns_of ASKED c.args.threads BUDGET) (omega arith) (omega arith))))

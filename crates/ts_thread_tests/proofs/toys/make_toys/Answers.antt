@@ -1,4 +1,5 @@
 use Rattle.std.proofs.Common.{◌≡◌, subst, arith}
+use Rattle.std.proofs.lemmas.Result.{IfOk-at_ok}
 use Rattle.ts_thread_tests.specs.ToyRows.{AreToys}
 use Rattle.ts_thread_tests.proofs.ToyRows.{toys_begin, toys_next}
 use Rattle.ts_thread_tests.proofs.toys.make_toys.Goals as goal
@@ -11,19 +12,19 @@ toys-init g c =
 
 pub toys-preserved : goal.toys-preserved
 toys-preserved g c =
-    let made = c.in_ok-group.ensures in
+    let made = c.expect-group.ensures in
     let tagged = c.tag-tag.ensures in
     toys_next g.W.Slotted.fits g.W.World.sound g.W.World.only_asked g.W.World.is_first
     (g.W.Toy.tagged c.args.todo) c.toys._toy c.toys.tags.items c.push-in-toys.new.self.items
-    c.toys.groups.items c.push.new.self.items c.tag-tag.result c.in_ok-group.group
+    c.toys.groups.items c.push.new.self.items c.tag-tag.result c.expect-group.result
     c.toys.invariant
-    c.in_ok-push-2.ensures.items
-    c.in_ok-push.ensures.items
+    (rw c.expect-in-toys.ensures at c.push-in-toys.ensures.items)
+    (rw c.expect.ensures at c.push.ensures.items)
     tagged
     (g.met.W.Toy.works c.args.todo c.tag-tag.result tagged)
-    (made.fits c.tag-tag.result tagged)
-    made.sound
-    made.fresh
+    (IfOk-at_ok _ made (c.group.ensures.fits c.tag-tag.result tagged))
+    (IfOk-at_ok _ made c.group.ensures.sound)
+    (IfOk-at_ok _ made c.group.ensures.fresh)
 
 pub returns : goal.returns
 returns g c =

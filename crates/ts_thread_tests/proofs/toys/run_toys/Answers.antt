@@ -16,7 +16,7 @@ use Rattle.ts_thread_tests.proofs.toys.run_toys.Goals as goal
 pub run_whole-requires-clause-run : goal.run_whole-requires-clause-run
 run_whole-requires-clause-run g c κs within =
     let toy = g.met.W.Toy g.world.𝓛 g.world.𝓜 g.world.𝓡 ((λ s x. x), (λ x. x), (λ x. x), λ x. x) in
-    let are = c.in_ok-groups.ensures in
+    let are = c.make_toys-groups.ensures in
     let n = are.count_is in
     let times : c.args.threads * (2 * BUDGET) ≤ MOST_THREADS * (2 * BUDGET) = mul-le c.args.threads
     (2 * BUDGET) MOST_THREADS (2 * BUDGET) c.requires.threads.1 (omega arith) in record {
@@ -39,13 +39,13 @@ pub run_whole-requires-clause-tells : goal.run_whole-requires-clause-tells
 run_whole-requires-clause-tells g c κs within =
     let toy = g.met.W.Toy g.world.𝓛 g.world.𝓜 g.world.𝓡 ((λ s x. x), (λ x. x), (λ x. x), λ x. x) in
     row_tells g.W.Slotted.fits g.W.World.sound g.W.World.only_asked g.W.World.is_first g.W.World.left
-    toy.little (g.W.Toy.tagged c.args.todo) TOYS _ _ c.in_ok-groups.ensures
+    toy.little (g.W.Toy.tagged c.args.todo) TOYS _ _ c.make_toys-groups.ensures
 
 pub returns-clause-count : goal.returns-clause-count
 returns-clause-count g c =
     IfOk-weaker c.run_whole.result _ (λ gs. length gs.items ≡ TOYS)
     (λ gs ended. toys_count g.W.Slotted.fits g.W.World.sound g.W.World.only_asked g.W.World.is_first
-    (g.W.Toy.tagged c.args.todo) TOYS _ _ gs.items c.in_ok-groups.ensures ended.fits)
+    (g.W.Toy.tagged c.args.todo) TOYS _ _ gs.items c.make_toys-groups.ensures ended.fits)
     c.run_whole.ensures.ended
 
 pub returns-clause-ended : goal.returns-clause-ended
@@ -55,7 +55,7 @@ returns-clause-ended g c =
     (λ gs ended.
     all_ended g.W.Slotted.fits g.W.World.sound g.W.World.only_asked g.W.World.is_first
     (g.W.Toy.tagged c.args.todo) (g.W.Toy.counted c.args.todo) _ gs.items (toy.ends c.args.todo)
-    c.in_ok-groups.ensures.tagged ended.fits ended.idle)
+    c.make_toys-groups.ensures.tagged ended.fits ended.idle)
     c.run_whole.ensures.ended
 
 pub returns-clause-lacks : goal.returns-clause-lacks
@@ -68,4 +68,4 @@ returns-clause-lacks g c =
     only_memory c.run_whole.result (c.run_whole.ensures.spares
     (row_ends g.W.Slotted.fits g.W.World.sound g.W.World.only_asked g.W.World.is_first g.W.World.left
     toy.little (g.W.Toy.tagged c.args.todo) (turns_of TOYS c.args.threads BUDGET) TOYS _ _
-    c.in_ok-groups.ensures low))
+    c.make_toys-groups.ensures low))
