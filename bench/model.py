@@ -208,8 +208,8 @@ PLUGINS = {b"denylist.so": deny_list, b"header.so": header_rule, b"session.so": 
 
 class Config:
     """The lines of each kind in their order: transforms, each a name and its values, hook plugins, request bodies,
-    intercepts and taps. `files` are the names of append lines, in the order of all lines, and `idle` is the first line
-    on which nobody acts yet, None where there is none."""
+    intercepts and taps. `files` are the names of the files that lines name, in the order of all lines, and `idle` is
+    the first line on which nobody acts yet, None where there is none."""
 
     def __init__(self):
         self.transforms, self.plugins, self.requests, self.intercepts, self.taps = [], [], [], [], []
@@ -229,17 +229,22 @@ class Config:
         elif name == b"request.so":
             self.put_transform(self.requests, request_line(rest), MOST_REQUESTS)
         elif name == b"intercept.so":
-            put(self.intercepts, intercept_line(rest), MOST_INTERCEPTS)
+            self.put_intercept(intercept_line(rest))
         elif name == b"tap.so":
             put(self.taps, tap_line(rest), MOST_TAPS)
         else:
             raise BrokenRule("plugin")
-        return name in TRANSFORMS or name in (b"denylist.so", b"header.so", b"request.so")
+        return name != b"session.so"
 
     def put_transform(self, lines, line, most):
         put(lines, line, most)
         if line[0] == "append_transform.so":
             self.files.append(line[1])
+
+    def put_intercept(self, line):
+        put(self.intercepts, line, MOST_INTERCEPTS)
+        if line[1] == "file":
+            self.files.append(line[2])
 
 
 def put(lines, line, most):
@@ -493,11 +498,20 @@ def framing_of_request(request):
     return "chunks" if is_in_chunks(request.head) else content_length(request.head) or "nothing"
 
 
-def is_denied(config, host):
-    """Whether the host, without its port, is a site of some deny list."""
+def site_of(host):
+    """The host without its port, in lower case: what the sites of lines are compared with."""
     bracket = host.find(b"]")
-    site = host[: bracket + 1] if bracket >= 0 else host.split(b":")[0]
-    return any(line[0] == "deny" and site.lower() in line[1] for line in config.plugins)
+    return (host[: bracket + 1] if bracket >= 0 else host.split(b":")[0]).lower()
+
+
+def is_denied(config, host):
+    """Whether the host is a site of some deny list."""
+    return any(line[0] == "deny" and site_of(host) in line[1] for line in config.plugins)
+
+
+def intercept_of(config, host):
+    """The first intercept whose site is the host, None where there is none."""
+    return next((line for line in config.intercepts if line[0].lower() == site_of(host)), None)
 
 
 def origin_head(request, config, framing):
@@ -598,6 +612,16 @@ def end_of_trailers(text):
     return "bad" if is_hopeless else "cut"
 
 
+def served(line, asked, texts):
+    """What an intercept gives in the place of the origin, which would get this head."""
+    _, kind, *values = line
+    if kind == "file":
+        return texts[values[0]]
+    body = asked if kind == "echo" else b"x" * values[0]
+    fields = [(b"content-type", b"text/plain"), (b"content-length", b"%d" % len(body))]
+    return printed(b"HTTP/1.1 200 OK", fields) + body
+
+
 def acting_lines(head, config):
     """The lines that act on a response with this head, if it has a body."""
     is_coded = any(value != b"identity" for value in head.values(b"content-encoding"))
@@ -676,17 +700,38 @@ def own_answer(status, config, request):
 # ---- transactions
 
 # What a transaction comes to: the origin's head, the body that it gets, None where the client sends none or it is
-# refused, how the transaction ended, the client's head and the client's body.
-Outcome = collections.namedtuple("Outcome", "asked upload end head body")
+# refused, how the transaction ended, the client's head, the client's body, and the count and the sum of that, None
+# where no tap tells them.
+Outcome = collections.namedtuple("Outcome", "asked upload end head body tap", defaults=(None,))
 
 
 def outcome(client, origin, config, texts):
     """What a transaction comes to."""
+    found = exchange(client, origin, config, texts)
+    has_tap = config.taps and found.end == "whole"
+    return found._replace(tap=tapped(found.body, config.taps[0])) if has_tap else found
+
+
+def tapped(body, most):
+    """What a tap tells of a body: how many bytes it counted, so many at most, and their sum."""
+    return len(body[:most]), sum_of(body[:most])
+
+
+def sum_of(text):
+    total = 0
+    for byte in text:
+        total = (31 * total + byte) % 2**64
+    return total
+
+
+def exchange(client, origin, config, texts):
+    """What a transaction comes to, without what a tap tells."""
     if not client:
         return Outcome(b"", None, "whole", b"", b"")
     request = read_request(client)
     status = 400 if request is None else refusal(request)
-    if status is None and is_denied(config, parts_of_target(request)[1]):
+    host = None if status else parts_of_target(request)[1]
+    if status is None and is_denied(config, host):
         status = 403
     if status:
         return Outcome(b"", None, "whole", *own_answer(status, config, request))
@@ -695,7 +740,9 @@ def outcome(client, origin, config, texts):
     upload, is_refused = upload_of(client[request.head.length :], framing, config, texts)
     if is_refused:
         return Outcome(asked, None, "whole", *own_answer(400, config, request))
-    return Outcome(asked, upload, *answer(request, origin, config, texts))
+    intercept = intercept_of(config, host)
+    given = served(intercept, asked, texts) if intercept else origin
+    return Outcome(asked, upload, *answer(request, given, config, texts))
 
 
 def upload_of(text, framing, config, texts):
@@ -730,7 +777,9 @@ def block(number, found):
     if found.upload is not None:
         text += counted(b"upload", found.upload)
     text += b"end %b\n" % found.end.encode() + counted(b"head", found.head)
-    return text + counted(b"body", found.body) if found.end == "whole" else text
+    if found.end == "whole":
+        text += counted(b"body", found.body)
+    return text if found.tap is None else text + b"tap %d %d\n" % found.tap
 
 
 def counted(word, text):
@@ -741,7 +790,7 @@ def outcome_of(transaction, config, texts):
     """The same of a transaction of a recording: a client that leaves takes the front of a head."""
     client, origin, leave = transaction
     found = outcome(client, origin, config, texts)
-    return found if leave is None else found._replace(end="left", head=found.head[:leave], body=b"")
+    return found if leave is None else found._replace(end="left", head=found.head[:leave], body=b"", tap=None)
 
 
 def report(config, texts, version, transactions):
@@ -796,10 +845,7 @@ def generate(seed, count, size):
     responses = [generated_response(draws, int(size)) for _ in range(int(count))]
     ended = [outcome(GENERATED_REQUEST, response, config, {}) for response in responses]
     bodies = [found.body for found in ended if found.end == "whole"]
-    total = 0
-    for byte in b"".join(bodies):
-        total = (31 * total + byte) % 2**64
-    figures = (len(ended), len(bodies), sum(map(len, bodies)), total)
+    figures = (len(ended), len(bodies), sum(map(len, bodies)), sum_of(b"".join(bodies)))
     return b"transactions %d\nwhole %d\nbody %d\nsum %d\n" % figures
 
 
@@ -819,7 +865,7 @@ def read_file(name, most):
 
 
 def read_setup(name):
-    """The configuration of a file, and the texts of the files that its append lines name."""
+    """The configuration of a file, and the texts of the files that its lines name."""
     config = read_config(read_file(name, MOST_CONFIGURATION))
     if config.idle is not None:
         raise Fault(3, b"configuration line %d: arguments" % config.idle)

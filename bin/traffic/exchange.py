@@ -14,6 +14,14 @@ class Exchange:
         self.client_pause, self.origin_pause = client_pause, origin_pause
 
 
+class AskedFor:
+    """What is asked for of the exchanges of a file: their pauses, and the hosts that a line is to serve, in lower case,
+    whose requests need no answer."""
+
+    def __init__(self, pauses, served):
+        self.pauses, self.served = pauses, served
+
+
 class LeftOut(Exception):
     """Why an exchange is not in the recording."""
 

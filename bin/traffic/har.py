@@ -12,36 +12,40 @@ from .exchange import FORM_FAULTS, Exchange, LeftOut, octets, said_of
 DROPPED = {b"content-encoding", b"transfer-encoding", b"content-length", b"connection", b"keep-alive"}
 
 
-def exchanges(text, pauses=False):
-    """The exchanges of a HAR file in its order, with their pauses or without; in place of one that is left
-    out, why."""
+def exchanges(text, asked_for):
+    """The exchanges of a HAR file in its order, as they are asked for; in place of one that is left out, why."""
     for entry in json.loads(text.decode("utf-8-sig"))["log"]["entries"]:
         try:
-            yield exchange_of(entry, pauses)
+            yield exchange_of(entry, asked_for)
         except LeftOut as reason:
             yield reason
         except FORM_FAULTS as fault:
             yield LeftOut(f"it is no entry of a HAR file: {said_of(fault)}")
 
 
-def exchange_of(entry, pauses):
+def exchange_of(entry, asked_for):
     request, response = entry["request"], entry["response"]
     url = urllib.parse.urlsplit(request["url"])
     if url.scheme not in ("http", "https"):
         raise LeftOut(f"a URL of the scheme {url.scheme}")
     status = int(response["status"])
-    if not 100 <= status <= 999:
+    is_answered = 100 <= status <= 999
+    if not is_answered and not asked_for.served:
         raise LeftOut("it has no answer")
     method = octets(request["method"])
     first = b"%b %b HTTP/1.1" % (method, target_of(url))
     posted = posted_of(request)
     asked = wire.message(first, request_fields(request, url, posted), posted)
+    if not is_answered:
+        if wire.host_of(asked) not in asked_for.served:
+            raise LeftOut("it has no answer")
+        return Exchange(asked, b"", is_later(request.get("httpVersion", "")))
     status_line = b"HTTP/1.1 %03d %b" % (status, octets(response.get("statusText", "")))
     body = b"" if wire.has_no_body(status, method) else body_of(response["content"])
     answered = wire.message(status_line, response_fields(response, status, method, body), body)
     versions = (request.get("httpVersion", ""), response.get("httpVersion", ""))
     is_rewritten = any(is_later(version) for version in versions)
-    return Exchange(asked, answered, is_rewritten, origin_pause=waited(entry) if pauses else 0)
+    return Exchange(asked, answered, is_rewritten, origin_pause=waited(entry) if asked_for.pauses else 0)
 
 
 def posted_of(request):

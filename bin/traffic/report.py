@@ -10,15 +10,17 @@ class NoReport(Exception):
 
 
 class Block:
-    """What a report says of one transaction; `upload` and `body` are None where it says nothing of one."""
+    """What a report says of one transaction; `upload`, `body` and `tap` are None where it says nothing of one. A tap is
+    how many bytes of the body were counted, and their sum."""
 
-    def __init__(self, request, upload, end, head, body):
-        self.request, self.upload, self.end, self.head, self.body = request, upload, end, head, body
+    def __init__(self, request, upload, end, head, body, tap):
+        self.request, self.upload, self.end, self.head, self.body, self.tap = request, upload, end, head, body, tap
 
     def text(self, number):
         asked = counted(b"request", self.request) + counted(b"upload", self.upload)
         given = counted(b"head", self.head) + counted(b"body", self.body)
-        return b"txn %d\n%bend %b\n%b" % (number, asked, self.end, given)
+        tap = b"" if self.tap is None else b"tap %d %d\n" % self.tap
+        return b"txn %d\n%bend %b\n%b%b" % (number, asked, self.end, given, tap)
 
 
 def counted(word, text):
@@ -57,7 +59,15 @@ class Reader:
         upload = self.counted(b"upload") if self.text.startswith(b"upload ", self.at) else None
         end = self.line(rb"end ([a-z]+)\n")[1]
         head = self.counted(b"head")
-        return Block(request, upload, end, head, self.counted(b"body") if end == b"whole" else None)
+        if end != b"whole":
+            return Block(request, upload, end, head, None, None)
+        body = self.counted(b"body")
+        return Block(request, upload, end, head, body, self.tap() if self.text.startswith(b"tap ", self.at) else None)
+
+    def tap(self):
+        """The two numbers of a tap line."""
+        found = self.line(rb"tap (0|[1-9][0-9]*) (0|[1-9][0-9]*)\n")
+        return int(found[1]), int(found[2])
 
 
 def read(text):

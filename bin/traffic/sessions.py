@@ -11,36 +11,42 @@ from .recording import MOST_BYTES
 LATER_VERSIONS = ("2", "2.0", "3", "3.0")
 DELAY = re.compile(r"([0-9]+) *(us|ms|s)")
 MICROSECONDS = {"us": 1, "ms": 1000, "s": 1000000}
+NOT_ASKED = "it has no server-response: the origin was not asked"
 
 
-def exchanges(text, pauses=False):
-    """The exchanges of a file's sessions in their order, with their pauses or without; in place of one that is
-    left out, why."""
+def exchanges(text, asked_for):
+    """The exchanges of a file's sessions in their order, as they are asked for; in place of one that is left out,
+    why."""
     written = text.decode("utf-8", "surrogateescape").lstrip("\ufeff")
     whole = json.loads(written) if written.lstrip().startswith("{") else yaml.read(written)
     for session in whole["sessions"]:
         for transaction in session.get("transactions") or []:
             try:
-                yield exchange_of(transaction, pauses)
+                yield exchange_of(transaction, asked_for)
             except LeftOut as reason:
                 yield reason
             except FORM_FAULTS as fault:
                 yield LeftOut(f"it is no transaction of a session: {said_of(fault)}")
 
 
-def exchange_of(transaction, pauses):
-    for side, missing in (("client-request", "no request"), ("server-response", "the origin was not asked")):
-        if side not in transaction:
-            raise LeftOut(f"it has no {side}: {missing}")
+def exchange_of(transaction, asked_for):
+    if "client-request" not in transaction:
+        raise LeftOut("it has no client-request: no request")
+    is_answered = "server-response" in transaction
+    if not is_answered and not asked_for.served:
+        raise LeftOut(NOT_ASKED)
     everywhere = fields_of(transaction.get("all") or {})
     request = Message(transaction["client-request"], everywhere)
-    response = Message(transaction["server-response"], everywhere)
     asked, method = request.as_request()
+    pause = request.pause() if asked_for.pauses else 0
+    if not is_answered:
+        if wire.host_of(asked) not in asked_for.served:
+            raise LeftOut(NOT_ASKED)
+        return Exchange(asked, b"", request.is_later, pause)
+    response = Message(transaction["server-response"], everywhere)
     answered = response.as_response(method)
     is_rewritten = request.is_later or response.is_later
-    if not pauses:
-        return Exchange(asked, answered, is_rewritten)
-    return Exchange(asked, answered, is_rewritten, request.pause(), response.pause())
+    return Exchange(asked, answered, is_rewritten, pause, response.pause() if asked_for.pauses else 0)
 
 
 def path_of(url):

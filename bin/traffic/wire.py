@@ -74,6 +74,18 @@ def request_end(text, begin):
     return body_end(text, at, fields_of(text[begin:at]), at)
 
 
+def host_of(request):
+    """The host that a request asks for, without its port and in lower case: that of its target, or of its Host field;
+    nothing where it names none."""
+    end = head_end(request, 0)
+    head = request[:end].lstrip(b"\r\n")
+    absolute = re.match(rb"[^ ]* http://([^/? ]*)", head, re.IGNORECASE)
+    hosts = [value for name, value in fields_of(head) if name == b"host"]
+    host = absolute[1] if absolute else b"".join(hosts[:1])
+    bracket = host.find(b"]")
+    return (host[: bracket + 1] if bracket >= 0 else host.partition(b":")[0]).lower()
+
+
 def method_of(request):
     return request.lstrip(b"\r\n").split(b" ", 1)[0]
 

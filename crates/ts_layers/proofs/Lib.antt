@@ -1,1 +1,4 @@
+pub mod Keeping
 pub mod Layering
+pub mod Leaving
+pub mod Telling

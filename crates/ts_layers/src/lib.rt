@@ -1,11 +1,21 @@
 //! The layers of a transaction's ends: they are put over plain links as it is made, and taken off what is
-//! left of it. The promise of `plain_parts` is what the origin got of a request with a body.
+//! left of it. The promise of `plain_parts` is what was taken in the origin's place of a request with a body.
+//!
+//! ```text
+//! client ─ Watched (a tap, or none) ─ Front ─ the transaction ─ Carrier ─ Kept ─ Chosen ─ Lifted ─ origin
+//! ```
 #![tactic(auto)]
 
+mod kept;
 mod layers;
+mod off;
+mod over;
 mod row;
 
+pub use kept::Kept;
 pub use layers::{
-    LayeredExchange, LayeredTag, PlainExchange, make_layered, plain_parts, take_layered_apart,
+    LayeredExchange, LayeredTag, PlainExchange, has_origin, make_layered, take_layered_apart,
 };
+pub use off::{PlainParts, plain_parts};
+pub use over::{ClientEnd, OriginEnd};
 pub use row::{LayeredRow, LayeredRowTag, LayeredWorld, make_layered_group};

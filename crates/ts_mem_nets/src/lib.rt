@@ -6,6 +6,7 @@
 pub mod finding;
 pub mod keeping_net;
 pub mod links;
+pub mod naming_net;
 pub mod net;
 pub mod pages;
 pub mod seats;

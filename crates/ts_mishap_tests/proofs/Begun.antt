@@ -8,7 +8,7 @@ use Rattle.ts_group.specs.declared.either.EitherTag.TheVariants as kind
 use Rattle.ts_group.specs.declared.group.Group.{Group}
 use Rattle.ts_group.specs.declared.world.TheConstants.{MOST_SET}
 use Rattle.ts_group.specs.Acts.{BeginsTurn, GivesTurn}
-use Rattle.ts_group.specs.Answers.{Holds, SetsAtMost}
+use Rattle.ts_group.specs.Answers.{SetsAtMost}
 use Rattle.ts_group.specs.Changes.{StaysInTurn}
 use Rattle.ts_group.specs.Context.{IsFresh}
 use Rattle.ts_group.specs.Entries.{Grows}
@@ -23,7 +23,7 @@ use Rattle.ts_txn.specs.World.{HasTxnBegun}
 use Rattle.ts_txn.specs.declared.txn.TxnTag.{TxnTag}
 use Rattle.ts_txn.proofs.Fitting.{fits_begun}
 use Rattle.ts_exchange.specs.Rows.{FitsIn, FitsRow, IsSoundRow, RowGroup, RowWorld}
-use Rattle.ts_mishap_tests.specs.Begun.{first_turn}
+use Rattle.ts_mishap_tests.specs.Begun.{HasStarted, first_turn}
 
 on_true : (b : Bool) (P : Type 0) → P → OnTrue b P
 on_true true P holds = holds
@@ -58,32 +58,31 @@ module _ {W Q R T U : Type 0} (Fits : T → W → Type 0) (fresh begun started g
 
 module _ {C O Q : Type 0} (client : link.Ghosts C) (origin : link.Ghosts O) (both : upstream.Ghosts O C)
     (stage : transform.Ghosts Q TransformLine) where
-  module _ (tag : TxnTag C O) (fresh begun started given : RowGroup C O Q)
-      (made : FitsIn client origin both stage (kind.One tag) fresh) where
-    -- a world that was started fits the tag that says so
-    of_begun : (old new : RowWorld C O Q) → OfBoth HasTxnBegun (λ (old new : Plugin). new ≡ old) old new
-        → FitsRow client origin both stage (kind.One tag) old
-        → FitsRow client origin both stage (kind.One (record tag { started = true })) new
-    of_begun (One t) (One u) begins fits = fits_begun client origin tag t u begins fits
-    of_begun (One t) (Other p) begins fits = absurd begins
-    of_begun (Other p) new begins fits = absurd fits
+  -- what starting a world of the row makes of it
+  abbrev RowBegun : RowWorld C O Q → RowWorld C O Q → Type 0
+  RowBegun = OfBoth HasTxnBegun (λ (old new : Plugin). new ≡ old)
 
-    -- its group fits it too
-    pub fits_started : IsFresh 0 fresh.cx
-        → BeginsTurn fresh.cx begun.cx first_turn ONLY_SEAT 0 → begun.world ≡ fresh.world
-        → Grows begun.cx started.cx → StaysInTurn begun.cx.log.state started.cx.log.state
-        → OfBoth HasTxnBegun (λ (old new : Plugin). new ≡ old) begun.world started.world
-        → SetsAtMost (FitsRow client origin both stage) begun.world MOST_SET begun.cx started.cx
-        → GivesTurn started.cx given.cx → given.world ≡ started.world
-        → Holds (IsSoundRow client origin both stage) given
-        → FitsIn client origin both stage (kind.One (record tag { started = true })) given
-    fits_started new begins same grows turn first few gives left sound =
-        let Fits = FitsRow client origin both stage in
-        let fits : Fits (kind.One tag) begun.world = subst (Fits (kind.One tag)) (sym same) made.0 in (
-          subst (Fits (kind.One (record tag { started = true }))) (sym left)
-              (of_begun begun.world started.world first fits),
-          sound,
-          at_rest Fits fresh begun started given new begins grows turn gives (kind.One tag) fits few,
-          on_true tag.first (given.cx.log.base.made ≡ 0)
-              (no_turns_before Fits fresh begun started given new begins grows turn gives),
-        )
+  -- a world that was started fits the tag that says so
+  of_begun : (tag : TxnTag C O) (old new : RowWorld C O Q) → RowBegun old new
+      → FitsRow client origin both stage (kind.One tag) old
+      → FitsRow client origin both stage (kind.One (record tag { started = true })) new
+  of_begun tag (One t) (One u) begins fits = fits_begun client origin tag t u begins fits
+  of_begun tag (One t) (Other p) begins fits = absurd begins
+  of_begun tag (Other p) new begins fits = absurd fits
+
+  -- its group fits it too
+  pub fits_started : (tag : TxnTag C O) (fresh given : RowGroup C O Q)
+      → FitsIn client origin both stage (kind.One tag) fresh → IsFresh 0 fresh.cx
+      → HasStarted (FitsRow client origin both stage) (IsSoundRow client origin both stage) RowBegun fresh given
+      → FitsIn client origin both stage (kind.One (record tag { started = true })) given
+  fits_started tag fresh given made new is =
+      let Fits = FitsRow client origin both stage in
+      let fits : Fits (kind.One tag) is.begun.world = subst (Fits (kind.One tag)) (sym is.same) made.0 in (
+        subst (Fits (kind.One (record tag { started = true }))) (sym is.left)
+            (of_begun tag is.begun.world is.started.world is.first fits),
+        is.sound,
+        at_rest Fits fresh is.begun is.started given new is.begins is.grows is.turn is.gives (kind.One tag) fits
+            is.few,
+        on_true tag.first (given.cx.log.base.made ≡ 0)
+            (no_turns_before Fits fresh is.begun is.started given new is.begins is.grows is.turn is.gives),
+      )

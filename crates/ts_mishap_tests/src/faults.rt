@@ -1,17 +1,14 @@
 //! Links that fail or leave: how the transaction ends, and that what was sent by then is a front of what is
 //! stated.
 
-use crate::exchange::{EndedTxn, exchange, setup_of};
-use crate::plan::{Plan, dripping, dripping_after, giving, leaving, origin_of};
+use crate::plan::{Plan, dripping, dripping_after, giving, leaving};
 use crate::refusal::Refusal;
-use crate::row::{Finding, Row, check_between, check_front, get, judge, judge_front, own, run_row};
+use crate::row::{Finding, Row, get, own};
+use crate::seen::{MEMORY, check_between, front_at, run};
 use crate::stated::{ABC, ABC_FRONT, BAD_GATEWAY, GET, GET_SENT, HEAD, HEAD_SENT, SIZED};
 use crate::stock::{HTML, HTML_FRONT, STOCK, html};
 use std::alloc::Global;
-use std::test::Fail;
 use ts_hooks::TxnEnd;
-use ts_link::MemLink;
-use ts_txn::TxnParts;
 use ts_wire::Mode;
 
 // A response of HTML up to the close.
@@ -36,17 +33,24 @@ fn html_dripping(gives: &[u8]) -> Plan<'_> {
     dripping_after(gives, HTML_FRONT)
 }
 
-// Whether a client that failed or left got a front of so many bytes.
-fn judge_fault(
+// Whether a client that fails or leaves got a front of so many bytes, where the origin gives its body byte by
+// byte.
+fn check_fault(
     alloc: Global,
     row: &Row<'_>,
-    written: u64,
-    parts: &TxnParts<MemLink, MemLink>,
+    client: &Plan<'_>,
+    taken: u64,
 ) -> Result<Finding, Refusal> {
-    if parts.client.written().len() as u64 != written {
+    let seen = run(alloc, row, client, row.origin.map(html_dripping))?;
+    if seen.taken != taken {
         return Ok(Finding::OtherText);
     }
-    judge_front(alloc, row, TxnEnd::ClientFault, parts)
+    Ok(front_at(&seen, TxnEnd::ClientFault))
+}
+
+// Whether a client that leaves when it has taken so many bytes got a front of them.
+fn check_leaving(alloc: Global, row: &Row<'_>, at: u64) -> Result<Finding, Refusal> {
+    check_fault(alloc, row, &leaving(row.request, at), at)
 }
 
 // Whether a client whose write of this number fails got a front of all before it, where each write takes one
@@ -55,52 +59,22 @@ fn check_failing(alloc: Global, row: &Row<'_>, write: u64) -> Result<Finding, Re
     let client = Plan {
         fail_write: write,
         take: 1,
-        ..giving(GET)
+        ..giving(row.request)
     };
-    let origin = dripping_after(HTML, HTML_FRONT);
-    let ended = run_row(alloc, row, &client, Some(origin))?;
-    judge_fault(alloc, row, write.saturating_sub(1), &ended.parts)
-}
-
-// What comes of a row whose client leaves when it has taken so many bytes, and whose origin gives its body
-// byte by byte.
-fn run_leaving(alloc: Global, row: &Row<'_>, at: usize) -> Result<EndedTxn, Refusal> {
-    let client = leaving(alloc, row.request, at)?;
-    let plan = row.origin.map(html_dripping);
-    let origin = origin_of(alloc, plan)?;
-    let setup = setup_of(alloc, row.lines, row.file)?;
-    exchange(alloc, setup, client, origin)
-}
-
-// Whether such a client got a front of what is stated of so many bytes.
-fn check_leaving(alloc: Global, row: &Row<'_>, at: usize) -> Result<Finding, Refusal> {
-    let ended = run_leaving(alloc, row, at)?;
-    judge_fault(alloc, row, at as u64, &ended.parts)
-}
-
-// What a client gets of a row, whose origin gives its body byte by byte, and how much that is.
-fn check_length(alloc: Global, row: &Row<'_>) -> Result<(Finding, usize), Refusal> {
-    let origin = row.origin.map(html_dripping);
-    let ended = run_row(alloc, row, &giving(GET), origin)?;
-    let verdict = judge(alloc, row, &ended.parts)?;
-    Ok((verdict, ended.parts.client.written().len()))
+    check_fault(alloc, row, &client, write.saturating_sub(1))
 }
 
 #[test]
-fn a_client_that_leaves_in_its_head_got_a_front(rt: HostRuntime) -> Result<(), Fail> {
-    let alloc = rt.alloc();
+fn a_client_that_leaves_in_its_head_got_a_front(rt: HostRuntime) {
     let row = html(b"prepend.so <\n", b"<banana");
-    for at in 0..row.head.len() {
-        let verdict = check_leaving(alloc, &row, at);
+    for at in 0..row.head.len() as u64 {
+        let verdict = check_leaving(rt.alloc(), &row, at);
         assert_eq!(rt; verdict, Ok(Finding::AsStated), "at {at}");
     }
-    Ok(())
 }
 
 #[test]
-fn a_client_that_leaves_in_an_answer_of_the_proxys_own_got_a_front(
-    rt: HostRuntime,
-) -> Result<(), Fail> {
+fn a_client_that_leaves_in_an_answer_of_the_proxys_own_got_a_front(rt: HostRuntime) {
     let page = own(GET, b"", BAD_GATEWAY, b"502 Bad Gateway\n");
     let head = own(HEAD, b"", BAD_GATEWAY, b"");
     for row in [page, head] {
@@ -108,40 +82,36 @@ fn a_client_that_leaves_in_an_answer_of_the_proxys_own_got_a_front(
             origin: None,
             ..row
         };
-        for at in 0..row.head.len() + row.body.len() {
+        for at in 0..(row.head.len() + row.body.len()) as u64 {
             let verdict = check_leaving(rt.alloc(), &row, at);
             assert_eq!(rt; verdict, Ok(Finding::AsStated), "at {at}");
         }
     }
-    Ok(())
 }
 
 #[test]
-fn a_client_that_leaves_in_its_body_got_a_front(rt: HostRuntime) -> Result<(), Fail> {
-    let alloc = rt.alloc();
+fn a_client_that_leaves_in_its_body_got_a_front(rt: HostRuntime) {
     for (place, (lines, body)) in STOCK.iter().enumerate() {
         let row = html(lines, body);
-        let (whole, length) = check_length(alloc, &row)?;
-        assert_eq!(rt; whole, Finding::AsStated, "line {place}");
-        for at in row.head.len()..length {
-            let verdict = check_leaving(alloc, &row, at);
+        let origin = row.origin.map(html_dripping);
+        let whole = run(rt.alloc(), &row, &giving(GET), origin).expect(&rt, MEMORY);
+        assert_eq!(rt; whole.finding, Finding::AsStated, "line {place}");
+        for at in row.head.len() as u64..whole.taken {
+            let verdict = check_leaving(rt.alloc(), &row, at);
             assert_eq!(rt; verdict, Ok(Finding::AsStated), "line {place}, at {at}");
         }
     }
-    Ok(())
 }
 
 #[test]
-fn a_client_that_fails_at_each_write_got_a_front(rt: HostRuntime) -> Result<(), Fail> {
-    let alloc = rt.alloc();
+fn a_client_that_fails_at_each_write_got_a_front(rt: HostRuntime) {
     let row = html(b"prepend.so <\n", b"<banana");
     // Each of the seven bytes goes in a chunk of its own at most.
     let least = row.head.len() as u64 + 17;
     for write in 1..=least {
-        let verdict = check_failing(alloc, &row, write);
+        let verdict = check_failing(rt.alloc(), &row, write);
         assert_eq!(rt; verdict, Ok(Finding::AsStated), "write {write}");
     }
-    Ok(())
 }
 
 // Whether an origin whose read of this number fails is answered for by all that was framed, where it gives
@@ -169,18 +139,17 @@ fn check_origin(
 }
 
 #[test]
-fn an_origin_that_fails_in_its_body_gave_a_front(rt: HostRuntime) -> Result<(), Fail> {
-    let alloc = rt.alloc();
+fn an_origin_that_fails_in_its_body_gave_a_front(rt: HostRuntime) {
     for (place, (lines, body)) in STOCK.iter().enumerate() {
         let row = html(lines, body);
         // The first read brings the head, and each of the other six a byte.
         for read in 2..=7 {
-            let verdict = check_origin(alloc, &row, HTML, HTML_FRONT, read);
+            let verdict = check_origin(rt.alloc(), &row, HTML, HTML_FRONT, read);
             assert_eq!(rt; verdict, Ok(Finding::AsStated), "line {place}, read {read}");
         }
         // Of a body up to the close one more read brings its end.
         for read in 2..=8 {
-            let verdict = check_origin(alloc, &row, ENDLESS_HTML, ENDLESS_FRONT, read);
+            let verdict = check_origin(rt.alloc(), &row, ENDLESS_HTML, ENDLESS_FRONT, read);
             assert_eq!(rt;
                 verdict,
                 Ok(Finding::AsStated),
@@ -188,19 +157,17 @@ fn an_origin_that_fails_in_its_body_gave_a_front(rt: HostRuntime) -> Result<(), 
             );
         }
     }
-    Ok(())
 }
 
 #[test]
-fn an_origin_that_fails_in_its_head_is_answered_for(rt: HostRuntime) -> Result<(), Fail> {
-    let alloc = rt.alloc();
+fn an_origin_that_fails_in_its_head_is_answered_for(rt: HostRuntime) {
     let row = gateway_fault(html(b"prepend.so <\n", b""));
     for read in 1..=u64::from(HTML_FRONT) {
         let origin = Plan {
             fail_read: read,
             ..dripping(HTML)
         };
-        let verdict = check_between(alloc, &row, &giving(GET), Some(origin));
+        let verdict = check_between(rt.alloc(), &row, &giving(GET), Some(origin));
         assert_eq!(rt; verdict, Ok(Finding::AsStated), "read {read}");
     }
     let head = Row {
@@ -212,15 +179,13 @@ fn an_origin_that_fails_in_its_head_is_answered_for(rt: HostRuntime) -> Result<(
             fail_read: read,
             ..dripping(b"HTTP/1.1 200 OK\r\n")
         };
-        let verdict = check_between(alloc, &head, &giving(HEAD), Some(origin));
+        let verdict = check_between(rt.alloc(), &head, &giving(HEAD), Some(origin));
         assert_eq!(rt; verdict, Ok(Finding::AsStated), "HEAD, read {read}");
     }
-    Ok(())
 }
 
 #[test]
-fn an_origin_that_fails_at_each_write_is_answered_for(rt: HostRuntime) -> Result<(), Fail> {
-    let alloc = rt.alloc();
+fn an_origin_that_fails_at_each_write_is_answered_for(rt: HostRuntime) {
     for write in 1..=GET_SENT.len() {
         let (sent, _) = GET_SENT.split_at(write - 1);
         let row = gateway_fault(Row {
@@ -231,35 +196,48 @@ fn an_origin_that_fails_at_each_write_is_answered_for(rt: HostRuntime) -> Result
             fail_write: write as u64,
             ..dripping(ABC)
         };
-        let verdict = check_between(alloc, &row, &giving(GET), Some(origin));
+        let verdict = check_between(rt.alloc(), &row, &giving(GET), Some(origin));
         assert_eq!(rt; verdict, Ok(Finding::AsStated), "write {write}");
     }
-    Ok(())
 }
 
 #[test]
-fn a_client_that_fails_at_each_read_gets_nothing(rt: HostRuntime) -> Result<(), Fail> {
-    let alloc = rt.alloc();
+fn a_client_that_fails_at_each_read_gets_nothing(rt: HostRuntime) {
     let row = Row {
         sent: b"",
         end: TxnEnd::ClientFault,
         ..get(ABC, b"", Mode::Plain, b"")
     };
-    for read in 1..=GET.len() {
+    for read in 1..=GET.len() as u64 {
         let client = Plan {
-            fail_read: read as u64,
+            fail_read: read,
             ..dripping(GET)
         };
-        let verdict = check_between(alloc, &row, &client, Some(giving(ABC)));
+        let verdict = check_between(rt.alloc(), &row, &client, Some(giving(ABC)));
         assert_eq!(rt; verdict, Ok(Finding::AsStated), "read {read}");
     }
-    Ok(())
+}
+
+// Whether a client whose write of this number fails, where each write takes one byte, got a front and decides
+// the end.
+fn check_last(
+    alloc: Global,
+    row: &Row<'_>,
+    write: u64,
+    origin: Plan<'_>,
+) -> Result<Finding, Refusal> {
+    let client = Plan {
+        fail_write: write,
+        take: 1,
+        ..giving(GET)
+    };
+    let seen = run(alloc, row, &client, Some(origin))?;
+    Ok(front_at(&seen, TxnEnd::ClientFault))
 }
 
 // A client that fails while the rest of a body is sent that was cut, or whose origin failed.
 #[test]
-fn a_client_that_fails_last_decides_the_end(rt: HostRuntime) -> Result<(), Fail> {
-    let alloc = rt.alloc();
+fn a_client_that_fails_last_decides_the_end(rt: HostRuntime) {
     let row = get(ABC, SIZED, Mode::Plain, b"abc");
     let (front, _) = ABC.split_at(ABC.len() - 1);
     let cut = giving(front);
@@ -269,14 +247,8 @@ fn a_client_that_fails_last_decides_the_end(rt: HostRuntime) -> Result<(), Fail>
     };
     for origin in [cut, failing] {
         for write in 1..=SIZED.len() as u64 {
-            let client = Plan {
-                fail_write: write,
-                take: 1,
-                ..giving(GET)
-            };
-            let verdict = check_front(alloc, &row, TxnEnd::ClientFault, &client, Some(origin));
+            let verdict = check_last(rt.alloc(), &row, write, origin);
             assert_eq!(rt; verdict, Ok(Finding::AsStated), "write {write}");
         }
     }
-    Ok(())
 }

@@ -2,11 +2,11 @@
 
 use crate::plan::{dripping, dripping_after, giving};
 use crate::refusal::Refusal;
-use crate::row::{Finding, Row, check, check_at_once, check_between, chunked, get};
+use crate::row::{Finding, Row, chunked, get};
+use crate::seen::{check, check_at_once, check_between};
 use crate::stated::{ABC, ABC_FRONT, CHUNKED, GET, IN_CHUNKS, SIZED, response};
 use crate::stock::{HTML, HTML_FRONT, STOCK, html};
 use std::alloc::Global;
-use std::test::Fail;
 use ts_hooks::TxnEnd;
 use ts_wire::Mode;
 
@@ -18,34 +18,37 @@ const CHUNKS: &[u8] =
 // How many bytes of it are its head.
 const CHUNKS_FRONT: u32 = 72;
 
+// Whether a client gets a front of this body, with nothing configured, and with a byte put first.
+fn check_front(alloc: Global, front: &[u8]) -> [Result<Finding, Refusal>; 2] {
+    let row = Row {
+        end: TxnEnd::OriginCut,
+        ..get(front, SIZED, Mode::Plain, b"ab")
+    };
+    let lined = Row {
+        end: TxnEnd::OriginCut,
+        lines: b"prepend.so <\n",
+        ..get(front, CHUNKED, Mode::Chunked, b"<ab")
+    };
+    [check(alloc, &row), check(alloc, &lined)]
+}
+
 #[test]
-fn a_body_that_is_cut_is_a_front(rt: HostRuntime) -> Result<(), Fail> {
-    let alloc = rt.alloc();
+fn a_body_that_is_cut_is_a_front(rt: HostRuntime) {
     assert_eq!(rt; ABC.split_at(ABC_FRONT as usize).1, b"abc".as_slice());
     for at in ABC_FRONT as usize..ABC.len() {
         let (front, _) = ABC.split_at(at);
-        let row = Row {
-            end: TxnEnd::OriginCut,
-            ..get(front, SIZED, Mode::Plain, b"ab")
-        };
-        assert_eq!(rt; check(alloc, &row), Ok(Finding::AsStated), "at {at}");
-        let lined = Row {
-            end: TxnEnd::OriginCut,
-            lines: b"prepend.so <\n",
-            ..get(front, CHUNKED, Mode::Chunked, b"<ab")
-        };
+        let verdicts = check_front(rt.alloc(), front);
         assert_eq!(rt;
-            check(alloc, &lined),
-            Ok(Finding::AsStated),
-            "with a line, at {at}"
+            verdicts,
+            [Ok(Finding::AsStated), Ok(Finding::AsStated)],
+            "at {at}"
         );
     }
-    Ok(())
 }
 
 // All that came of it is passed on, where the client takes it at once and no line holds it back.
 #[test]
-fn a_front_of_a_body_of_a_stated_length_is_passed_on(rt: HostRuntime) -> Result<(), Fail> {
+fn a_front_of_a_body_of_a_stated_length_is_passed_on(rt: HostRuntime) {
     let gives = b"HTTP/1.1 200 OK\r\nContent-Length: 5\r\n\r\nhel";
     let row = Row {
         end: TxnEnd::OriginCut,
@@ -57,10 +60,11 @@ fn a_front_of_a_body_of_a_stated_length_is_passed_on(rt: HostRuntime) -> Result<
             b"hel",
         )
     };
-    assert_eq!(rt; check_at_once(rt.alloc(), &row), Ok(Finding::AsStated));
-    let verdict = check_between(rt.alloc(), &row, &giving(GET), Some(dripping(gives)));
-    assert_eq!(rt; verdict, Ok(Finding::AsStated));
-    Ok(())
+    let verdicts = [
+        check_at_once(rt.alloc(), &row),
+        check_between(rt.alloc(), &row, &giving(GET), Some(dripping(gives))),
+    ];
+    assert_eq!(rt; verdicts, [Ok(Finding::AsStated), Ok(Finding::AsStated)]);
 }
 
 // Whether a client gets this body of such a front of the chunks, which come at once, and byte by byte after
@@ -85,18 +89,16 @@ fn check_cut(
 }
 
 #[test]
-fn chunks_that_are_cut_are_a_front(rt: HostRuntime) -> Result<(), Fail> {
-    let alloc = rt.alloc();
+fn chunks_that_are_cut_are_a_front(rt: HostRuntime) {
     for (place, (lines, body)) in STOCK.iter().enumerate() {
         for at in CHUNKS_FRONT as usize..CHUNKS.len() {
             let (front, _) = CHUNKS.split_at(at);
-            let cut = check_cut(alloc, lines, body, front, TxnEnd::OriginCut);
+            let cut = check_cut(rt.alloc(), lines, body, front, TxnEnd::OriginCut);
             assert_eq!(rt; cut, Ok(Finding::AsStated), "line {place}, at {at}");
         }
-        let whole = check_cut(alloc, lines, body, CHUNKS, TxnEnd::Whole);
+        let whole = check_cut(rt.alloc(), lines, body, CHUNKS, TxnEnd::Whole);
         assert_eq!(rt; whole, Ok(Finding::AsStated), "line {place}");
     }
-    Ok(())
 }
 
 // A response in chunks that go wrong.
@@ -113,48 +115,61 @@ fn check_bad(alloc: Global, chunks: &[u8], lines: &[u8], body: &[u8]) -> Result<
     check(alloc, &bad_row(lines, origin.as_slice(), body))
 }
 
+// Chunks that go wrong, and how much of them is a body.
+const BAD_CHUNKS: [(&[u8], &[u8]); 8] = [
+    (b"x\r\n", b""),
+    (b"3\r\nabcX", b"abc"),
+    (b"3\r\nabc\rX", b"abc"),
+    (b"3\r\nabc\r\nx\r\n0\r\n\r\n", b"abc"),
+    (b"3\r\nabc\r\n-1\r\n", b"abc"),
+    // More than 2^63 - 1 bytes.
+    (b"8000000000000000\r\nabc", b""),
+    (b"3\r\nabc\r\n7fffffffffffffff\r\nabc", b"abc"),
+    // A trailer that is no field.
+    (b"3\r\nabc\r\n0\r\n\x00\r\n\r\n", b"abc"),
+];
+
+// A body that is held back is not sent at all.
 #[test]
-fn bad_chunks_end_a_body_at_a_front(rt: HostRuntime) -> Result<(), Fail> {
-    let rows: [(&[u8], &[u8]); 8] = [
-        (b"x\r\n", b""),
-        (b"3\r\nabcX", b"abc"),
-        (b"3\r\nabc\rX", b"abc"),
-        (b"3\r\nabc\r\nx\r\n0\r\n\r\n", b"abc"),
-        (b"3\r\nabc\r\n-1\r\n", b"abc"),
-        // More than 2^63 - 1 bytes.
-        (b"8000000000000000\r\nabc", b""),
-        (b"3\r\nabc\r\n7fffffffffffffff\r\nabc", b"abc"),
-        // A trailer that is no field.
-        (b"3\r\nabc\r\n0\r\n\x00\r\n\r\n", b"abc"),
-    ];
-    for (place, (chunks, body)) in rows.iter().enumerate() {
-        let verdict = check_bad(rt.alloc(), chunks, b"", body);
-        assert_eq!(rt; verdict, Ok(Finding::AsStated), "row {place}");
-        // A body that is held back is not sent at all.
-        let held = check_bad(rt.alloc(), chunks, b"bnull_transform.so\n", b"");
-        assert_eq!(rt; held, Ok(Finding::AsStated), "held back, row {place}");
+fn bad_chunks_end_a_body_at_a_front(rt: HostRuntime) {
+    for (place, (chunks, body)) in BAD_CHUNKS.iter().enumerate() {
+        let verdicts = [
+            check_bad(rt.alloc(), chunks, b"", body),
+            check_bad(rt.alloc(), chunks, b"bnull_transform.so\n", b""),
+        ];
+        assert_eq!(rt;
+            verdicts,
+            [Ok(Finding::AsStated), Ok(Finding::AsStated)],
+            "row {place}, held back"
+        );
     }
     let lined = check_bad(rt.alloc(), b"3\r\nabcX", b"prepend.so <", b"<abc");
     assert_eq!(rt; lined, Ok(Finding::AsStated));
-    Ok(())
 }
 
-#[test]
-fn a_chunk_line_and_a_trailer_have_their_limits(rt: HostRuntime) -> Result<(), Fail> {
-    let alloc = rt.alloc();
-    // A chunk line of 4,096 bytes that has not ended.
-    let mut endless = Vec::from_slice(alloc, b"3;")?;
-    endless.extend_from_slice(vec![in alloc; b'a'; 4_094]?.as_slice())?;
-    let verdict = check_bad(alloc, endless.as_slice(), b"", b"");
-    assert_eq!(rt; verdict, Ok(Finding::AsStated));
-    // A trailer section of 65 fields.
-    let mut fields = Vec::from_slice(alloc, b"3\r\nabc\r\n0\r\n")?;
-    for _ in 0..65 {
-        fields.extend_from_slice(b"T: 1\r\n")?;
+// Whether chunks of this front, and so many of this text behind it, go wrong behind this body.
+fn check_limited(
+    alloc: Global,
+    front: &[u8],
+    text: &[u8],
+    count: usize,
+    body: &[u8],
+) -> Result<Finding, Refusal> {
+    let mut chunks = Vec::from_slice(alloc, front)?;
+    for _ in 0..count {
+        chunks.extend_from_slice(text)?;
     }
-    let verdict = check_bad(alloc, fields.as_slice(), b"", b"abc");
-    assert_eq!(rt; verdict, Ok(Finding::AsStated));
-    Ok(())
+    check_bad(alloc, chunks.as_slice(), b"", body)
+}
+
+// A chunk line of 4,096 bytes that has not ended, and a trailer section of 65 fields.
+#[test]
+fn a_chunk_line_and_a_trailer_have_their_limits(rt: HostRuntime) {
+    let verdicts = [
+        check_limited(rt.alloc(), b"3;", b"a", 4_094, b""),
+        check_limited(rt.alloc(), b"3\r\nabc\r\n0\r\n", b"T: 1\r\n", 65, b"abc"),
+    ];
+    assert_eq!(rt; verdicts, [Ok(Finding::AsStated), Ok(Finding::AsStated)]);
 }
 
 // The front of a text, of at most so many bytes.
@@ -192,7 +207,7 @@ fn check_limit(alloc: Global, limit: usize, came: usize) -> Result<Finding, Refu
 }
 
 #[test]
-fn a_body_that_is_cut_before_a_limit_at_it_and_behind_it(rt: HostRuntime) -> Result<(), Fail> {
+fn a_body_that_is_cut_before_a_limit_at_it_and_behind_it(rt: HostRuntime) {
     for limit in 0..5 {
         for came in 0..3 {
             let verdict = check_limit(rt.alloc(), limit, came);
@@ -203,7 +218,6 @@ fn a_body_that_is_cut_before_a_limit_at_it_and_behind_it(rt: HostRuntime) -> Res
             );
         }
     }
-    Ok(())
 }
 
 // Lines, chunks that break off or go wrong before they end early, what becomes of them, and how that ends.
@@ -236,12 +250,11 @@ fn check_stopped(
 }
 
 #[test]
-fn chunks_that_stop_before_a_limit(rt: HostRuntime) -> Result<(), Fail> {
+fn chunks_that_stop_before_a_limit(rt: HostRuntime) {
     for (place, (lines, chunks, body, end)) in STOPPED.iter().enumerate() {
         let verdict = check_stopped(rt.alloc(), lines, chunks, body, *end);
         assert_eq!(rt; verdict, Ok(Finding::AsStated), "row {place}");
     }
-    Ok(())
 }
 
 // Lines, a text, and how much of it they have written in time of the first bytes of `banana`, from none
@@ -277,12 +290,11 @@ fn check_in_time<'a>(
 }
 
 #[test]
-fn of_a_body_that_is_cut_all_comes_that_was_written_in_time(rt: HostRuntime) -> Result<(), Fail> {
+fn of_a_body_that_is_cut_all_comes_that_was_written_in_time(rt: HostRuntime) {
     for (place, (lines, text, lengths)) in IN_TIME.iter().enumerate() {
         for (came, length) in lengths.iter().enumerate() {
             let verdict = check_in_time(rt.alloc(), lines, came, front_of(text, *length));
             assert_eq!(rt; verdict, Ok(Finding::AsStated), "row {place}, {came} came");
         }
     }
-    Ok(())
 }

@@ -2,10 +2,10 @@
 
 use crate::plan::{Plan, giving};
 use crate::refusal::Refusal;
-use crate::row::{Finding, check_between, chunked};
+use crate::row::{Finding, chunked};
+use crate::seen::check_between;
 use crate::stated::{ENDLESS, GET, response};
 use std::alloc::Global;
-use std::test::Fail;
 
 // As many lines as there may be.
 const SIXTEEN: &[u8] =
@@ -71,28 +71,26 @@ fn check_long(
 // Each byte takes some 20 events, and each event four entries of the journal, which keeps them all: a body of
 // a MiB in single bytes would take 80 million entries.
 #[test]
-fn a_body_of_1_kib_byte_by_byte(rt: HostRuntime) -> Result<(), Fail> {
+fn a_body_of_1_kib_byte_by_byte(rt: HostRuntime) {
     let verdict = check_long(rt.alloc(), SIXTEEN, KIB, 1, usize::MAX);
     assert_eq!(rt; verdict, Ok(Finding::AsStated));
-    Ok(())
 }
 
 #[test]
-fn a_body_of_1_mib_in_pieces(rt: HostRuntime) -> Result<(), Fail> {
+fn a_body_of_1_mib_in_pieces(rt: HostRuntime) {
     let verdict = check_long(rt.alloc(), SIXTEEN, MIB, KIB as u32, usize::MAX);
     assert_eq!(rt; verdict, Ok(Finding::AsStated));
-    Ok(())
 }
 
 // The client takes less than the origin gives, so that each boundary fills.
 #[test]
-fn a_body_for_a_slow_client(rt: HostRuntime) -> Result<(), Fail> {
+fn a_body_for_a_slow_client(rt: HostRuntime) {
     let held = b"bnull_transform.so\n";
-    let verdict = check_long(rt.alloc(), SIXTEEN, 4 * PAST_A_BOUNDARY, u32::MAX, KIB);
-    assert_eq!(rt; verdict, Ok(Finding::AsStated));
-    let verdict = check_long(rt.alloc(), held, 4 * PAST_A_BOUNDARY, u32::MAX, KIB);
-    assert_eq!(rt; verdict, Ok(Finding::AsStated));
-    Ok(())
+    let verdicts = [
+        check_long(rt.alloc(), SIXTEEN, 4 * PAST_A_BOUNDARY, u32::MAX, KIB),
+        check_long(rt.alloc(), held, 4 * PAST_A_BOUNDARY, u32::MAX, KIB),
+    ];
+    assert_eq!(rt; verdicts, [Ok(Finding::AsStated), Ok(Finding::AsStated)]);
 }
 
 // How many bytes each read of a long body brings, and how many reads bring it.
@@ -129,7 +127,7 @@ fn check_endless(
 }
 
 #[test]
-fn a_body_without_an_end_is_not_read_on(rt: HostRuntime) -> Result<(), Fail> {
+fn a_body_without_an_end_is_not_read_on(rt: HostRuntime) {
     let heads: [&[u8]; 2] = [
         b"HTTP/1.1 200 OK\r\n\r\n",
         b"HTTP/1.1 200 OK\r\nContent-Length: 9223372036854775807\r\n\r\n",
@@ -146,5 +144,4 @@ fn a_body_without_an_end_is_not_read_on(rt: HostRuntime) -> Result<(), Fail> {
             assert_eq!(rt; verdict, Ok(Finding::AsStated), "row {place}");
         }
     }
-    Ok(())
 }

@@ -12,6 +12,8 @@ mod fronts;
 #[cfg(test)]
 mod journals;
 #[cfg(test)]
+mod judging;
+#[cfg(test)]
 mod large;
 #[cfg(test)]
 mod memory;
@@ -25,6 +27,8 @@ mod plan;
 mod refusal;
 #[cfg(test)]
 mod row;
+#[cfg(test)]
+mod seen;
 #[cfg(test)]
 mod stated;
 #[cfg(test)]

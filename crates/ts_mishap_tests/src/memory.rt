@@ -3,14 +3,12 @@
 
 use crate::plan::{dripping_after, giving};
 use crate::refusal::Refusal;
-use crate::row::{Finding, Row, get, judge, judge_front, own, run_row};
+use crate::row::{Finding, Row, get, own};
+use crate::seen::{front_at, run};
 use crate::stated::{ABC, BAD_GATEWAY, GET, GET_SENT, SIZED};
 use crate::stock::html;
 use std::alloc::Global;
-use std::test::Fail;
 use ts_hooks::TxnEnd;
-use ts_link::MemLink;
-use ts_txn::TxnParts;
 use ts_wire::Mode;
 
 // The response of HTML in chunks, and how much of it is its head.
@@ -27,27 +25,17 @@ const RULED_SENT: &[u8] =
 const RULED: &[u8] = b"HTTP/1.1 200 OK\r\nx-b: 2\r\nvia: 1.1 tsx\r\ncontent-length: 3\r\n\
 connection: close\r\n\r\n";
 
-// Whether a transaction came out as stated, or lacked memory and gave a front.
-fn judge_spare(
-    alloc: Global,
-    row: &Row<'_>,
-    parts: &TxnParts<MemLink, MemLink>,
-) -> Result<Finding, Refusal> {
-    if parts.end != Some(TxnEnd::NoMemory) {
-        return judge(alloc, row, parts);
-    }
-    let front = judge_front(alloc, row, TxnEnd::NoMemory, parts)?;
-    Ok(match front {
-        Finding::AsStated => Finding::Lacks,
-        other => other,
-    })
-}
-
-// The same of an exchange whose origin gives this.
+// Whether an exchange whose origin gives this comes out as stated, or lacks memory and gives a front.
 fn check_spare(alloc: Global, row: &Row<'_>, gives: &[u8]) -> Result<Finding, Refusal> {
     let origin = dripping_after(gives, FRONT);
-    let ended = run_row(alloc, row, &giving(GET), Some(origin))?;
-    judge_spare(alloc, row, &ended.parts)
+    let seen = run(alloc, row, &giving(GET), Some(origin))?;
+    if seen.end != Some(TxnEnd::NoMemory) {
+        return Ok(seen.finding);
+    }
+    match front_at(&seen, TxnEnd::NoMemory) {
+        Finding::AsStated => Ok(Finding::Lacks),
+        other => Ok(other),
+    }
 }
 
 // What comes of four exchanges one after the other: as they are stated, or the first that is other.
@@ -75,15 +63,13 @@ fn check_rows(alloc: Global) -> Result<Finding, Refusal> {
 
 // With ample memory each exchange is whole. Run with each allocation refused in turn (`rt try --test
 // --fail-alloc N`, N from 1 on), one of them gives a front, or a call for it answers want of memory. Since
-// one allocation alone is refused, no second one may lack: all four are whole when they are made again. They
-// make some 415 allocations; with each of them refused the test passed.
+// one allocation alone is refused, no second one may lack: all four are whole when they are made again.
 #[test]
-fn one_exchange_gives_a_front_and_all_are_whole_at_the_last(rt: HostRuntime) -> Result<(), Fail> {
+fn one_exchange_gives_a_front_and_all_are_whole_at_the_last(rt: HostRuntime) {
     let verdict = match check_rows(rt.alloc()) {
         Ok(Finding::Lacks) => check_rows(rt.alloc()),
         Err(Refusal::NoMemory) => check_rows(rt.alloc()),
         other => other,
     };
     assert_eq!(rt; verdict, Ok(Finding::AsStated));
-    Ok(())
 }

@@ -1,23 +1,22 @@
 //! Questions that are missed: while another seat holds the group of a plugin it is not asked, and it is asked
 //! again later.
 
-ghost use Rattle.std.specs.Prelude.{◌≡◌, IfOk};
+ghost use Rattle.std.specs.Prelude.{◌≡◌};
 ghost use Rattle.ts_slot.specs.Words.{tags_of, view};
 ghost use Rattle.ts_thread.specs.Threads.{HasOpened, IsPair};
 ghost use Rattle.ts_mishap_tests.specs.Begun.{HasRowTags};
 
-use crate::exchange::{FIRST_PLUGIN, MemTxn, make_row, setup_of};
+use crate::exchange::{FIRST_PLUGIN, MemTxn, first_of, make_row, setting_of};
+use crate::judging::judge;
 use crate::plan::{giving, link_of, origin_of};
-use crate::refusal::Refusal;
-use crate::row::{Finding, Row, check_at_once, get, judge};
+use crate::row::{Finding, Row, get};
+use crate::seen::{MEMORY, check_at_once};
 use crate::stated::{ABC, FORBIDDEN, SIZED};
-use std::alloc::Global;
 use std::process::Abort;
 use std::sync::Wait;
-use std::test::Fail;
 use ts_exchange::GroupRow;
 use ts_group::{Either, Group};
-use ts_link::{NoMemory, OpenGate};
+use ts_link::OpenGate;
 use ts_plugin::Plugin;
 use ts_queue::{EventQueue, QueuePass};
 use ts_slot::{Seat, Slots};
@@ -28,8 +27,8 @@ use ts_wire::Mode;
 // The world of a group here.
 type MemWorld = Either<MemTxn, Plugin>;
 
-// Why a run has no outcome.
-const MEMORY: &str = "memory lacks";
+// What stands first in each row here.
+const FIRST: &str = "a transaction stands first";
 
 // How many turns of a thread come to the question at most, and from its reply to the end.
 const MOST_TURNS: u32 = 64;
@@ -52,23 +51,22 @@ struct Missed {
     finding: Finding,
 }
 
-fn open<R: Wait>(rt: &R, alloc: Global, row: &Row<'_>) -> Result<Opened, Refusal>
-    ensures pair { IfOk result (λ o. IsPair o.slots o.queue o.seat o.pass) }
-    ensures opened { IfOk result (λ o. HasOpened 1 o.seat o.pass) }
-    ensures tags { IfOk result (λ o. HasRowTags (tags_of o.slots)) }
+// The groups of a row in slots, of which the first was started.
+fn open<R: Abort + AllocGlobal + Wait>(rt: &R, row: &Row<'_>) -> Opened
+    ensures pair { IsPair result.slots result.queue result.seat result.pass }
+    ensures opened { HasOpened 1 result.seat result.pass }
+    ensures tags { HasRowTags (tags_of result.slots) }
 {
-    let client = link_of(alloc, &giving(row.request))?;
-    let origin = origin_of(alloc, row.origin.map(giving))?;
-    let setup = setup_of(alloc, row.lines, row.file)?;
-    let made = make_row(alloc, setup, client, origin)?;
+    let alloc = rt.alloc();
+    let setting = setting_of(alloc, row.lines, row.file).expect(rt, MEMORY);
+    let client = link_of(alloc, &giving(row.request)).expect(rt, MEMORY);
+    let origin = origin_of(alloc, row.origin.map(giving)).expect(rt, MEMORY);
+    let made = make_row(alloc, &setting, client, origin).expect(rt, MEMORY);
     let GroupRow { groups, tags } = made;
-    if groups.is_empty() || groups.len() > MOST_GROUPS as usize {
-        return Err(Refusal::Lines);
-    }
-    let Ok((slots, mut seat)) = Slots::make(alloc, groups, tags) else {
-        return Err(Refusal::NoMemory);
-    };
-    let (queue, mut pass) = EventQueue::make(alloc)?;
+    assert!(rt; !groups.is_empty());
+    assert!(rt; groups.len() <= MOST_GROUPS as usize);
+    let (slots, mut seat) = Slots::make(alloc, groups, tags).expect(rt, MEMORY);
+    let (queue, mut pass) = EventQueue::make(alloc).expect(rt, MEMORY);
     let gate = OpenGate::make();
     let shared = Shared {
         rt,
@@ -76,106 +74,100 @@ fn open<R: Wait>(rt: &R, alloc: Global, row: &Row<'_>) -> Result<Opened, Refusal
         queue: &queue,
         gate: &gate,
     };
-    start_groups(&shared, alloc, &mut seat, &mut pass, 1)?;
-    Ok(Opened {
+    start_groups(&shared, alloc, &mut seat, &mut pass, 1).expect(rt, MEMORY);
+    Opened {
         slots,
         seat,
         queue,
         pass,
-    })
+    }
 }
 
 // Takes one turn.
-fn take_turn<R: Wait>(
+fn take_turn<R: Abort + Wait>(
     rt: &R,
     thread: &mut EventThread<MemWorld, OpenGate>,
     moment: u64,
-) -> Result<Did, NoMemory>
+) -> Did
     requires { HasRowTags (tags_of thread.old.slots.now) }
     ensures slots { thread.new.slots ≡ thread.old.slots }
     ensures tags { tags_of thread.new.slots.now ≡ tags_of thread.old.slots.now }
     ensures share { (view thread.new.desk.seat).share ≡ (view thread.old.desk.seat).share }
 {
-    thread.turn(rt, moment)
+    thread.turn(rt, moment).expect(rt, MEMORY)
 }
 
 // Takes turns at a moment until a plugin is missed, or the thread is idle.
 #[tactic(auto, using(crate::proofs::Rows::same_tags))]
-fn take_turns<R: Wait>(
+fn take_turns<R: Abort + Wait>(
     rt: &R,
     thread: &mut EventThread<MemWorld, OpenGate>,
     moment: u64,
-) -> Result<Option<Did>, NoMemory>
+) -> Option<Did>
     requires { HasRowTags (tags_of thread.old.slots.now) }
     ensures slots { thread.new.slots ≡ thread.old.slots }
     ensures tags { tags_of thread.new.slots.now ≡ tags_of thread.old.slots.now }
     ensures share { (view thread.new.desk.seat).share ≡ (view thread.old.desk.seat).share }
 {
     'turns: for _turn in 0..MOST_TURNS {
-        let did = take_turn(rt, thread, moment)?;
+        let did = take_turn(rt, thread, moment);
         if let Did::AskMissed { .. } = did {
-            return Ok(Some(did));
+            return Some(did);
         }
         if let Did::Idle = did {
-            return Ok(None);
+            return None;
         }
     }
-    Ok(None)
+    None
 }
 
 // Whether the first of these groups is a transaction that came out as the row states.
-fn judge_first(
-    alloc: Global,
+fn judge_first<R: Abort + AllocGlobal>(
+    rt: &R,
     row: &Row<'_>,
     groups: Vec<Group<MemWorld>>,
-) -> Result<Finding, Refusal> {
-    let Some(group) = groups.into_iter().next() else {
-        return Ok(Finding::OtherNumber);
-    };
-    let (world, _journal) = group.into_parts();
+) -> Finding {
+    let (world, _journal) = first_of(groups).expect(rt, FIRST);
     let Either::One(txn) = world else {
-        return Ok(Finding::OtherNumber);
+        return Finding::OtherNumber;
     };
-    judge(alloc, row, &txn.into_parts())
+    judge(rt.alloc(), row, &txn.into_parts()).expect(rt, MEMORY)
 }
 
 // What comes of a row whose first plugin's group another seat holds, until it is missed once.
 #[tactic(auto, using(ts_group::specs::Standing::stands_itself, crate::proofs::Rows::same_tags))]
-fn miss_once<R: Abort + Wait>(rt: &R, alloc: Global, row: &Row<'_>) -> Result<Missed, Refusal> {
+fn miss_once<R: Abort + AllocGlobal + Wait>(rt: &R, row: &Row<'_>) -> Missed {
     let Opened {
         slots,
         mut seat,
         queue,
         pass,
-    } = open(rt, alloc, row)?;
-    if slots.groups() <= FIRST_PLUGIN {
-        return Err(Refusal::Lines);
-    }
+    } = open(rt, row);
+    assert!(rt; FIRST_PLUGIN < slots.groups());
     let mut other = slots.split(&mut seat);
     let gate = OpenGate::make();
-    let Ok(mut thread) = EventThread::make(alloc, 0, &slots, seat, &queue, pass, &gate) else {
-        return Err(Refusal::NoMemory);
+    let Ok(mut thread) = EventThread::make(rt.alloc(), 0, &slots, seat, &queue, pass, &gate) else {
+        panic!(rt; "{MEMORY}")
     };
     let Ok(held) = slots.try_enter(&mut other, FIRST_PLUGIN) else {
-        return Err(Refusal::Lines);
+        panic!(rt; "nobody holds the group of the plugin")
     };
     let miss = take_turns(rt, &mut thread, 0);
     slots.leave(&mut other, held);
-    let miss = miss.expect(rt, MEMORY);
-    let early = take_turn(rt, &mut thread, 9).expect(rt, MEMORY);
-    let again = take_turn(rt, &mut thread, 10).expect(rt, MEMORY);
-    take_turns(rt, &mut thread, 10).expect(rt, MEMORY);
+    let early = take_turn(rt, &mut thread, 9);
+    let again = take_turn(rt, &mut thread, 10);
+    take_turns(rt, &mut thread, 10);
     let (mut seat, _pass) = thread.into_parts();
     slots.join(&mut seat, other);
-    let Ok(groups) = slots.close(alloc, seat) else {
-        return Err(Refusal::NoMemory);
+    let Ok(groups) = slots.close(rt.alloc(), seat) else {
+        panic!(rt; "{MEMORY}")
     };
-    Ok(Missed {
+    Missed {
         miss,
         early,
         again,
-        finding: judge_first(alloc, row, groups)?,
-    })
+        finding: judge_first(rt, row, groups),
+    }
 }
 
 // A deny list, a rule of requests and one of responses, each asked at a hook of its own.
@@ -204,7 +196,7 @@ connection: close\r\n\r\n",
 // A plugin is missed while another seat has its first turn, and asked again 10 milliseconds later. What comes
 // of the row is the same as without the miss.
 #[test]
-fn a_plugin_that_is_missed_is_asked_again(rt: HostRuntime) -> Result<(), Fail> {
+fn a_plugin_that_is_missed_is_asked_again(rt: HostRuntime) {
     let stated = Missed {
         miss: Some(Did::AskMissed {
             group: FIRST_PLUGIN,
@@ -215,12 +207,8 @@ fn a_plugin_that_is_missed_is_asked_again(rt: HostRuntime) -> Result<(), Fail> {
         finding: Finding::AsStated,
     };
     for (place, row) in of_each_hook().iter().enumerate() {
-        assert_eq!(rt;
-            check_at_once(rt.alloc(), row),
-            Ok(Finding::AsStated),
-            "row {place}"
-        );
-        assert_eq!(rt; miss_once(&rt, rt.alloc(), row)?, stated, "row {place}");
+        let without = check_at_once(rt.alloc(), row);
+        assert_eq!(rt; without, Ok(Finding::AsStated), "row {place}");
+        assert_eq!(rt; miss_once(&rt, row), stated, "row {place}");
     }
-    Ok(())
 }

@@ -4,14 +4,17 @@ ghost use Rattle.std.specs.Prelude.{◌≡◌, true, IfOk, IfSome};
 ghost use Rattle.std.specs.List.{All};
 ghost use Rattle.ts_txn.specs.Making.{ArePaired, IsNewLink, IsNewLinkIf};
 ghost use Rattle.ts_txn.specs.PairStock.{IsNewPair};
+ghost use Rattle.ts_mishap_tests.specs.Begun.{IsSetting};
 
-use crate::exchange::{EndedTxn, exchange, setup_of};
+use crate::exchange::{EndedTxn, exchange, setting_of};
+use crate::judging::judge;
 use crate::plan::{giving, link_of, origin_of};
 use crate::refusal::Refusal;
-use crate::row::{Finding, Row, get, head, judge, own};
+use crate::row::{Finding, Row, get, head, own};
+use crate::seen::MEMORY;
 use crate::stated::{ABC, BAD_GATEWAY, GET, SIZED};
 use std::alloc::Global;
-use std::test::Fail;
+use ts_exchange::ExchangeSetting;
 use ts_hooks::TxnEnd;
 use ts_link::MemLink;
 use ts_txn::{Accepted, Began, Dialed, MemNet, Net, NetCounts, Retired};
@@ -127,20 +130,33 @@ fn come<N: Net>(net: &mut N) -> Came {
 }
 
 // Runs the transaction of the next client to its end and hands it over. Whether a client came.
-fn serve_next(alloc: Global, net: &mut MemNet) -> Result<bool, Refusal> {
+fn serve_next(alloc: Global, setting: &ExchangeSetting, net: &mut MemNet) -> Result<bool, Refusal>
+    requires { IsSetting setting.now }
+{
     let Some(links) = next_links(net) else {
         return Ok(false);
     };
-    let setup = setup_of(alloc, b"", b"")?;
     let Links { client, origin } = links;
-    let EndedTxn {
-        told: _,
-        parts,
-        journal,
-        asked: _,
-    } = exchange(alloc, setup, client, origin)?;
+    let EndedTxn { parts, journal, .. } = exchange(alloc, setting, client, origin)?;
     net.retire(Retired { parts, journal })?;
     Ok(true)
+}
+
+// Serves each client that comes, of so many at most. How many came.
+fn serve_all(
+    alloc: Global,
+    setting: &ExchangeSetting,
+    most: usize,
+    net: &mut MemNet,
+) -> Result<usize, Refusal>
+    requires { IsSetting setting.now }
+{
+    for came in 0..most {
+        if !serve_next(alloc, setting, net)? {
+            return Ok(came);
+        }
+    }
+    Ok(most)
 }
 
 // Whether a net kept the transactions of the rows in order, each as its row states.
@@ -157,26 +173,48 @@ fn judge_kept(alloc: Global, rows: &[Row<'_>], net: &MemNet) -> Result<Finding, 
     Ok(Finding::AsStated)
 }
 
-// Whether a net that serves each client of the rows keeps their transactions as stated, and gives no other.
+// Whether a net that serves each client of the rows, and no other, keeps their transactions as stated.
+fn judge_served(alloc: Global, rows: &[Row<'_>], net: &mut MemNet) -> Result<Finding, Refusal> {
+    let setting = setting_of(alloc, b"", b"")?;
+    let most = rows.len().saturating_add(1);
+    let came = serve_all(alloc, &setting, most, net)?;
+    if came != rows.len() || net.retired().len() != rows.len() {
+        return Ok(Finding::OtherNumber);
+    }
+    judge_kept(alloc, rows, net)
+}
+
+// The same of a net whose clients are those of the rows.
 fn check_served(alloc: Global) -> Result<Finding, Refusal> {
     let rows = rows();
     let mut net = net_of(alloc, &rows, &[], &[])?;
-    for _ in &rows {
-        if !serve_next(alloc, &mut net)? {
-            return Ok(Finding::OtherNumber);
-        }
+    judge_served(alloc, &rows, &mut net)
+}
+
+// How many calls are made of a net that waits at some and fails at others.
+const CALLS: usize = 10;
+
+// What comes of these calls, one after the other.
+fn come_often<N: Net>(net: &mut N) -> [Came; CALLS] {
+    let mut came = [Came::Closed; CALLS];
+    for next in came.iter_mut() {
+        *next = come(net);
     }
-    if serve_next(alloc, &mut net)? || net.retired().len() != rows.len() {
-        return Ok(Finding::OtherNumber);
-    }
-    judge_kept(alloc, &rows, &net)
+    came
+}
+
+// What comes of dialing, of a client, and of dialing again.
+fn dial_twice<N: Net>(net: &mut N) -> (bool, Came, bool) {
+    let early = dial(net).is_some();
+    let came = come(net);
+    (early, came, dial(net).is_some())
 }
 
 // An accept call whose number stands in both lists fails. No call that fails or waits uses up a pair, and a
 // net that is closed goes on failing and waiting by its lists.
 #[test]
-fn clients_come_in_order_between_calls_that_fail_or_wait(rt: HostRuntime) -> Result<(), Fail> {
-    let came = [
+fn clients_come_in_order_between_calls_that_fail_or_wait(rt: HostRuntime) {
+    let came: [Came; CALLS] = [
         Came::Dialed,
         Came::Again,
         Came::Failed,
@@ -188,50 +226,38 @@ fn clients_come_in_order_between_calls_that_fail_or_wait(rt: HostRuntime) -> Res
         Came::Failed,
         Came::Closed,
     ];
-    let net = net_of(rt.alloc(), &rows(), &[2, 3, 7], &[3, 9]);
-    assert!(rt; net.is_ok());
-    let Ok(mut net) = net else {
-        return Ok(());
-    };
-    assert_eq!(rt; net.begin("127.0.0.1:80", "127.0.0.1:8080"), Began::Ready);
-    for (place, stated) in came.iter().enumerate() {
-        assert_eq!(rt; come(&mut net), *stated, "accept {place}");
-    }
     let counts = NetCounts {
         faults: 2,
         misdials: 1,
         waits: 2,
         ends: 3,
     };
-    assert_eq!(rt; net.counts(), counts);
-    Ok(())
+    let mut net = net_of(rt.alloc(), &rows(), &[2, 3, 7], &[3, 9]).expect(&rt, MEMORY);
+    let began = net.begin("127.0.0.1:80", "127.0.0.1:8080");
+    let seen = come_often(&mut net);
+    assert_eq!(rt; (began, seen, net.counts()), (Began::Ready, came, counts));
 }
 
 // An origin is given once, and none before a client came.
 #[test]
-fn an_origin_is_dialed_once(rt: HostRuntime) -> Result<(), Fail> {
-    let net = net_of(rt.alloc(), &rows(), &[], &[]);
-    assert!(rt; net.is_ok());
-    let Ok(mut net) = net else {
-        return Ok(());
-    };
-    assert!(rt; dial(&mut net).is_none());
-    assert_eq!(rt; come(&mut net), Came::Dialed);
-    assert!(rt; dial(&mut net).is_none());
-    assert_eq!(rt; net.counts().misdials, 2);
-    Ok(())
+fn an_origin_is_dialed_once(rt: HostRuntime) {
+    let mut net = net_of(rt.alloc(), &rows(), &[], &[]).expect(&rt, MEMORY);
+    let dialed = dial_twice(&mut net);
+    assert_eq!(rt;
+        (dialed, net.counts().misdials),
+        ((false, Came::Dialed, false), 2)
+    );
 }
 
 // With ample memory each transaction is kept. Run with each allocation refused in turn (`rt try --test
 // --fail-alloc N`, N from 1 on), one of them ends for want of memory, or a call answers it, and all are kept
 // when they are run again.
 #[test]
-fn what_is_left_of_transactions_is_kept_in_order(rt: HostRuntime) -> Result<(), Fail> {
+fn what_is_left_of_transactions_is_kept_in_order(rt: HostRuntime) {
     let verdict = match check_served(rt.alloc()) {
         Ok(Finding::Lacks) => check_served(rt.alloc()),
         Err(Refusal::NoMemory) => check_served(rt.alloc()),
         other => other,
     };
     assert_eq!(rt; verdict, Ok(Finding::AsStated));
-    Ok(())
 }

@@ -11,7 +11,8 @@ use ts_link::{MemLink, Octets, Piece};
 const FEW: usize = 16;
 
 /// What a link gives, how long its first piece is, if it is told, and how many pieces of one length follow;
-/// how many bytes a write takes at most, and which calls fail or wait. No call has the number 0.
+/// how many bytes a write takes at most, and which calls fail or wait. No call has the number 0. Or it gives
+/// all at once and leaves when it has taken so many bytes.
 #[derive(Clone, Copy)]
 pub struct Plan<'a> {
     pub gives: &'a [u8],
@@ -23,6 +24,7 @@ pub struct Plan<'a> {
     pub fail_write: u64,
     pub again_reads: (u64, u64),
     pub again_writes: (u64, u64),
+    pub leaves_at: Option<u64>,
 }
 
 /// A link that gives these bytes at once, and takes what it is given.
@@ -37,6 +39,7 @@ pub fn giving(gives: &[u8]) -> Plan<'_> {
         fail_write: 0,
         again_reads: (0, 0),
         again_writes: (0, 0),
+        leaves_at: None,
     }
 }
 
@@ -59,6 +62,14 @@ pub fn dripping_after(gives: &[u8], front: u32) -> Plan<'_> {
     }
 }
 
+/// A link that gives these bytes at once, and leaves when it has taken so many.
+pub fn leaving(gives: &[u8], at: u64) -> Plan<'_> {
+    Plan {
+        leaves_at: Some(at),
+        ..giving(gives)
+    }
+}
+
 // The lengths of the pieces of a plan but for the last.
 fn cuts_of(alloc: Global, plan: &Plan<'_>) -> Result<Vec<u32>, Refusal> {
     let mut cuts = Vec::new(alloc);
@@ -69,21 +80,45 @@ fn cuts_of(alloc: Global, plan: &Plan<'_>) -> Result<Vec<u32>, Refusal> {
     Ok(cuts)
 }
 
-/// The link of a plan.
-pub fn link_of(alloc: Global, plan: &Plan<'_>) -> Result<MemLink, Refusal>
+// The link of a plan that does not leave.
+fn staying_link(alloc: Global, plan: &Plan<'_>) -> Result<MemLink, Refusal>
     ensures { IfOk result (λ l. IsNewLink (look_of l)) }
 {
+    let cuts = cuts_of(alloc, plan)?;
+    let fail_reads = vec![in alloc; plan.fail_read; 1]?;
+    let fail_writes = vec![in alloc; plan.fail_write; 1]?;
+    let again_reads = vec![in alloc; plan.again_reads.0, plan.again_reads.1]?;
+    let again_writes = vec![in alloc; plan.again_writes.0, plan.again_writes.1]?;
     let input = Octets::copy_of(alloc, plan.gives)?;
     Ok(MemLink::make(
         alloc,
         input,
-        cuts_of(alloc, plan)?,
+        cuts,
         plan.take.max(1),
-        vec![in alloc; plan.fail_read; 1]?,
-        vec![in alloc; plan.fail_write; 1]?,
-        vec![in alloc; plan.again_reads.0, plan.again_reads.1]?,
-        vec![in alloc; plan.again_writes.0, plan.again_writes.1]?,
+        fail_reads,
+        fail_writes,
+        again_reads,
+        again_writes,
     ))
+}
+
+// One that gives these bytes at once, and leaves when it has taken so many.
+fn leaving_link(alloc: Global, gives: &[u8], at: u64) -> Result<MemLink, Refusal>
+    ensures { IfOk result (λ l. IsNewLink (look_of l)) }
+{
+    let mut pieces = Vec::new(alloc);
+    pieces.push(Piece::Bytes(Octets::copy_of(alloc, gives)?))?;
+    Ok(MemLink::of_pieces(alloc, pieces, Some(at)))
+}
+
+/// The link of a plan.
+pub fn link_of(alloc: Global, plan: &Plan<'_>) -> Result<MemLink, Refusal>
+    ensures { IfOk result (λ l. IsNewLink (look_of l)) }
+{
+    match plan.leaves_at {
+        Some(at) => leaving_link(alloc, plan.gives, at),
+        None => staying_link(alloc, plan),
+    }
 }
 
 /// The origin of a plan, if there is one.
@@ -97,13 +132,4 @@ pub fn origin_of(alloc: Global, plan: Option<Plan<'_>>) -> Result<Option<MemLink
         }
         None => Ok(None),
     }
-}
-
-/// A client that gives these bytes at once, and leaves when it has taken so many.
-pub fn leaving(alloc: Global, gives: &[u8], at: usize) -> Result<MemLink, Refusal>
-    ensures { IfOk result (λ l. IsNewLink (look_of l)) }
-{
-    let mut pieces = Vec::new(alloc);
-    pieces.push(Piece::Bytes(Octets::copy_of(alloc, gives)?))?;
-    Ok(MemLink::of_pieces(alloc, pieces, Some(at as u64)))
 }

@@ -1,16 +1,15 @@
 //! What a transaction tells of itself: the block of all bytes, its end, the questions of its plugins, and the
 //! pieces in which a body goes.
 
-use crate::exchange::{EndedTxn, NUMBER, Told, run};
+use crate::exchange::{Asked, NUMBER, Told};
+use crate::judging::check_block;
 use crate::plan::giving;
-use crate::refusal::Refusal;
-use crate::row::{Finding, Row, check, check_block, get, head, own};
+use crate::row::{Finding, Row, chunked, get, head, own};
+use crate::seen::{MEMORY, check, run};
 use crate::stated::{
-    ABC, BAD_GATEWAY, BAD_REQUEST, CHUNKED, GET, GET_SENT, HEAD, NOT_IMPLEMENTED, SIZED,
+    ABC, BAD_GATEWAY, BAD_REQUEST, CHUNKED, GET, GET_SENT, HEAD, NOT_IMPLEMENTED, SIZED, text_of,
 };
 use crate::stock::{FILE, STOCK, html};
-use std::alloc::Global;
-use std::test::Fail;
 use ts_hooks::TxnEnd;
 use ts_wire::Mode;
 
@@ -62,7 +61,7 @@ fn of_each_kind() -> [Row<'static>; 9] {
 
 // What a transaction comes to is the block of all bytes that its links give.
 #[test]
-fn the_block_of_all_bytes(rt: HostRuntime) -> Result<(), Fail> {
+fn the_block_of_all_bytes(rt: HostRuntime) {
     for (place, row) in of_each_kind().iter().enumerate() {
         assert_eq!(rt;
             check(rt.alloc(), row),
@@ -78,13 +77,12 @@ fn the_block_of_all_bytes(rt: HostRuntime) -> Result<(), Fail> {
             "line {place}"
         );
     }
-    Ok(())
 }
 
 // The answer of the proxy's own where no origin is reached, to a page and to the head of one. No line acts on
 // it.
 #[test]
-fn an_origin_that_is_not_reached(rt: HostRuntime) -> Result<(), Fail> {
+fn an_origin_that_is_not_reached(rt: HostRuntime) {
     let page = own(GET, b"", BAD_GATEWAY, b"502 Bad Gateway\n");
     let head = own(HEAD, b"", BAD_GATEWAY, b"");
     for (place, (lines, _)) in STOCK.iter().enumerate() {
@@ -102,50 +100,43 @@ fn an_origin_that_is_not_reached(rt: HostRuntime) -> Result<(), Fail> {
             );
         }
     }
-    Ok(())
 }
 
 // Links in memory refuse no upload, so it is the block alone that tells of one.
 #[test]
-fn an_upload_that_is_refused_is_answered_by_400(rt: HostRuntime) -> Result<(), Fail> {
+fn an_upload_that_is_refused_is_answered_by_400(rt: HostRuntime) {
     let row = Row {
         origin: Some(ABC),
         ..own(GET, GET_SENT, BAD_REQUEST, b"400 Bad Request\n")
     };
     assert_eq!(rt; check_block(rt.alloc(), true, &row), Ok(Finding::AsStated));
-    Ok(())
-}
-
-// What a transaction tells before its end, and how it ends.
-fn told_of(alloc: Global) -> Result<(Option<Told>, Option<TxnEnd>), Refusal> {
-    let ended = run(alloc, b"", b"", &giving(GET), Some(giving(ABC)))?;
-    Ok((ended.told, ended.parts.end))
 }
 
 #[test]
-fn a_transaction_tells_its_number_origin_and_end(rt: HostRuntime) -> Result<(), Fail> {
+fn a_transaction_tells_its_number_origin_and_end(rt: HostRuntime) {
+    let row = get(ABC, SIZED, Mode::Plain, b"abc");
+    let seen = run(rt.alloc(), &row, &giving(GET), Some(giving(ABC))).expect(&rt, MEMORY);
     let told = Told {
         number: NUMBER,
         is_dialed: true,
         end: None,
     };
-    assert_eq!(rt; told_of(rt.alloc())?, (Some(told), Some(TxnEnd::Whole)));
-    Ok(())
+    assert_eq!(rt; (seen.told, seen.end), (Some(told), Some(TxnEnd::Whole)));
 }
 
-// Whether a client gets this text of an origin that gives its response at once.
-fn is_sent(alloc: Global, origin: &[u8], text: &[u8]) -> Result<bool, Refusal> {
-    let ended = run(alloc, b"", b"", &giving(GET), Some(giving(origin)))?;
-    Ok(ended.parts.client.written() == text)
-}
-
+// What the client gets is then one text.
 #[test]
-fn a_piece_that_is_read_is_one_chunk(rt: HostRuntime) -> Result<(), Fail> {
-    let text =
+fn a_piece_that_is_read_is_one_chunk(rt: HostRuntime) {
+    let stated =
         b"HTTP/1.1 200 OK\r\nvia: 1.1 tsx\r\ntransfer-encoding: chunked\r\nconnection: close\r\n\r\n\
 5\r\nhello\r\n0\r\n\r\n";
-    assert!(rt; is_sent(rt.alloc(), b"HTTP/1.1 200 OK\r\n\r\nhello", text)?);
-    Ok(())
+    let gives = b"HTTP/1.1 200 OK\r\n\r\nhello";
+    let row = chunked(b"", gives, b"hello");
+    let seen = run(rt.alloc(), &row, &giving(GET), Some(giving(gives))).expect(&rt, MEMORY);
+    assert_eq!(rt; (seen.finding, seen.pieces), (Finding::AsStated, 1));
+    let text = text_of(rt.alloc(), row.head, row.mode, row.body, &[5], true).expect(&rt, MEMORY);
+    let text = text.expect(&rt, "a piece of the body");
+    assert!(rt; text.as_slice() == stated.as_slice());
 }
 
 // A deny list between rules of each side.
@@ -160,31 +151,30 @@ const DENIED: &[u8] = b"GET / HTTP/1.1\r\nHost: b\r\n\r\n";
 
 // The lines, the client's request, what the origin gives, and how often each plugin of the lines is asked:
 // one behind a deny list that denied is not.
-const ASKED: [(&[u8], &[u8], &[u8], &[u64]); 6] = [
-    (FOUR, GET, ABC, &[1, 1, 1, 1]),
-    (FOUR, GET, b"", &[1, 1, 1, 1]),
-    (FOUR, DENIED, ABC, &[1, 1, 0, 1]),
-    (FOUR, b"GET\r\n\r\n", ABC, &[1, 0, 0, 1]),
-    (TWICE, GET, ABC, &[1, 1]),
-    (TWICE, DENIED, ABC, &[1, 0]),
+const ASKED: [(&[u8], &[u8], &[u8], Asked); 6] = [
+    (FOUR, GET, ABC, [Some(1), Some(1), Some(1), Some(1)]),
+    (FOUR, GET, b"", [Some(1), Some(1), Some(1), Some(1)]),
+    (FOUR, DENIED, ABC, [Some(1), Some(1), Some(0), Some(1)]),
+    (
+        FOUR,
+        b"GET\r\n\r\n",
+        ABC,
+        [Some(1), Some(0), Some(0), Some(1)],
+    ),
+    (TWICE, GET, ABC, [Some(1), Some(1), None, None]),
+    (TWICE, DENIED, ABC, [Some(1), Some(0), None, None]),
 ];
 
-// How often each plugin of the lines was asked.
-fn asked_in(
-    alloc: Global,
-    lines: &[u8],
-    request: &[u8],
-    gives: &[u8],
-) -> Result<Vec<u64>, Refusal> {
-    let EndedTxn { asked, .. } = run(alloc, lines, b"", &giving(request), Some(giving(gives)))?;
-    Ok(asked)
-}
-
 #[test]
-fn each_plugin_is_asked_once_at_its_hook(rt: HostRuntime) -> Result<(), Fail> {
+fn each_plugin_is_asked_once_at_its_hook(rt: HostRuntime) {
     for (place, (lines, request, gives, stated)) in ASKED.iter().enumerate() {
-        let asked = asked_in(rt.alloc(), lines, request, gives)?;
-        assert_eq!(rt; asked.as_slice(), *stated, "row {place}");
+        // What the ends get is stated elsewhere.
+        let row = Row {
+            lines,
+            request,
+            ..get(gives, SIZED, Mode::Plain, b"abc")
+        };
+        let seen = run(rt.alloc(), &row, &giving(request), Some(giving(gives)));
+        assert_eq!(rt; seen.expect(&rt, MEMORY).asked, *stated, "row {place}");
     }
-    Ok(())
 }

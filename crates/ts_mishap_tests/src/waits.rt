@@ -1,14 +1,13 @@
 //! Links that make their caller wait: the same texts, and a pause of 10 milliseconds for each such answer.
 
-use crate::exchange::EndedTxn;
 use crate::journals::{last_made, last_moment, least_gap};
 use crate::plan::{Plan, dripping, dripping_after, giving};
 use crate::refusal::Refusal;
-use crate::row::{Finding, Row, get, judge, own, run_row};
+use crate::row::{Finding, Row, get, own};
+use crate::seen::{Seen, check_between, journal_of, run};
 use crate::stated::{ABC, BAD_GATEWAY, GET, GET_SENT, HEAD, SIZED};
 use crate::stock::{HTML, HTML_FRONT, STOCK, html};
 use std::alloc::Global;
-use std::test::Fail;
 use ts_journal::Entry;
 use ts_wire::Mode;
 
@@ -18,39 +17,12 @@ const PAUSE: u64 = 10;
 // How many calls of a link wait in each of these runs.
 const WAITS: u64 = 2;
 
-// How often the links of a transaction made their caller wait.
-fn waits_of(ended: &EndedTxn) -> (u64, u64) {
-    let origin = match &ended.parts.origin {
-        Some(link) => link.waits(),
-        None => 0,
-    };
-    (ended.parts.client.waits(), origin)
-}
-
-// Whether a transaction came out as the row states, and its links waited so often.
-fn judge_waiting(
-    alloc: Global,
-    row: &Row<'_>,
-    ended: &EndedTxn,
-    waits: (u64, u64),
-) -> Result<Finding, Refusal> {
-    if waits_of(ended) != waits {
-        return Ok(Finding::OtherWaits);
+// Whether a transaction came out as its row states, and its links waited so often.
+fn judge_waits(seen: &Seen, waits: (u64, u64)) -> Finding {
+    if seen.waits != waits {
+        return Finding::OtherWaits;
     }
-    judge(alloc, row, &ended.parts)
-}
-
-// The same, where one link waited twice and so made two pauses.
-fn judge_pauses(
-    alloc: Global,
-    row: &Row<'_>,
-    ended: &EndedTxn,
-    waits: (u64, u64),
-) -> Result<Finding, Refusal> {
-    if last_moment(ended.journal.entries()) != PAUSE * WAITS {
-        return Ok(Finding::OtherMoment);
-    }
-    judge_waiting(alloc, row, ended, waits)
+    seen.finding
 }
 
 // Whether a row comes out as stated where its links wait so often.
@@ -61,8 +33,8 @@ fn check_waiting(
     origin: Plan<'_>,
     waits: (u64, u64),
 ) -> Result<Finding, Refusal> {
-    let ended = run_row(alloc, row, client, Some(origin))?;
-    judge_waiting(alloc, row, &ended, waits)
+    let seen = run(alloc, row, client, Some(origin))?;
+    Ok(judge_waits(&seen, waits))
 }
 
 // Whether a row comes out as stated where one link waits twice, and so makes two pauses.
@@ -73,12 +45,15 @@ fn check_pauses(
     origin: Option<Plan<'_>>,
     waits: (u64, u64),
 ) -> Result<Finding, Refusal> {
-    let ended = run_row(alloc, row, client, origin)?;
-    judge_pauses(alloc, row, &ended, waits)
+    let seen = run(alloc, row, client, origin)?;
+    if seen.last != PAUSE * WAITS {
+        return Ok(Finding::OtherMoment);
+    }
+    Ok(judge_waits(&seen, waits))
 }
 
 #[test]
-fn a_client_that_waits_at_each_read(rt: HostRuntime) -> Result<(), Fail> {
+fn a_client_that_waits_at_each_read(rt: HostRuntime) {
     let row = get(ABC, SIZED, Mode::Plain, b"abc");
     for read in 1..=GET.len() as u64 {
         let client = Plan {
@@ -88,11 +63,10 @@ fn a_client_that_waits_at_each_read(rt: HostRuntime) -> Result<(), Fail> {
         let verdict = check_pauses(rt.alloc(), &row, &client, Some(dripping(ABC)), (WAITS, 0));
         assert_eq!(rt; verdict, Ok(Finding::AsStated), "read {read}");
     }
-    Ok(())
 }
 
 #[test]
-fn an_origin_that_waits_at_each_write(rt: HostRuntime) -> Result<(), Fail> {
+fn an_origin_that_waits_at_each_write(rt: HostRuntime) {
     let row = get(ABC, SIZED, Mode::Plain, b"abc");
     for write in 1..=GET_SENT.len() as u64 {
         let origin = Plan {
@@ -102,7 +76,6 @@ fn an_origin_that_waits_at_each_write(rt: HostRuntime) -> Result<(), Fail> {
         let verdict = check_pauses(rt.alloc(), &row, &dripping(GET), Some(origin), (0, WAITS));
         assert_eq!(rt; verdict, Ok(Finding::AsStated), "write {write}");
     }
-    Ok(())
 }
 
 // How many writes of few bytes a client makes at least that gets a body.
@@ -112,8 +85,7 @@ const WRITES: u64 = 8;
 const READS: u64 = 7;
 
 #[test]
-fn a_client_that_waits_at_each_write(rt: HostRuntime) -> Result<(), Fail> {
-    let alloc = rt.alloc();
+fn a_client_that_waits_at_each_write(rt: HostRuntime) {
     let origin = dripping_after(HTML, HTML_FRONT);
     for (place, (lines, body)) in STOCK.iter().enumerate() {
         let row = html(lines, body);
@@ -122,7 +94,7 @@ fn a_client_that_waits_at_each_write(rt: HostRuntime) -> Result<(), Fail> {
                 again_writes: (write, write + 1),
                 ..dripping_after(GET, 0)
             };
-            let verdict = check_waiting(alloc, &row, &client, origin, (WAITS, 0));
+            let verdict = check_waiting(rt.alloc(), &row, &client, origin, (WAITS, 0));
             assert_eq!(rt;
                 verdict,
                 Ok(Finding::AsStated),
@@ -130,12 +102,10 @@ fn a_client_that_waits_at_each_write(rt: HostRuntime) -> Result<(), Fail> {
             );
         }
     }
-    Ok(())
 }
 
 #[test]
-fn an_origin_that_waits_at_each_read(rt: HostRuntime) -> Result<(), Fail> {
-    let alloc = rt.alloc();
+fn an_origin_that_waits_at_each_read(rt: HostRuntime) {
     let client = dripping_after(GET, 0);
     for (place, (lines, body)) in STOCK.iter().enumerate() {
         let row = html(lines, body);
@@ -144,16 +114,14 @@ fn an_origin_that_waits_at_each_read(rt: HostRuntime) -> Result<(), Fail> {
                 again_reads: (read, read + 1),
                 ..dripping_after(HTML, HTML_FRONT)
             };
-            let verdict = check_waiting(alloc, &row, &client, origin, (0, WAITS));
+            let verdict = check_waiting(rt.alloc(), &row, &client, origin, (0, WAITS));
             assert_eq!(rt; verdict, Ok(Finding::AsStated), "line {place}, read {read}");
         }
     }
-    Ok(())
 }
 
 #[test]
-fn both_links_wait_at_each_call(rt: HostRuntime) -> Result<(), Fail> {
-    let alloc = rt.alloc();
+fn both_links_wait_at_each_call(rt: HostRuntime) {
     for (place, (lines, body)) in STOCK.iter().enumerate() {
         let row = html(lines, body);
         for (write, read) in [(1, 1), (2, 2), (3, 7), (7, 1), (7, 3), (7, 7)] {
@@ -165,7 +133,7 @@ fn both_links_wait_at_each_call(rt: HostRuntime) -> Result<(), Fail> {
                 again_reads: (read, read + 1),
                 ..dripping_after(HTML, HTML_FRONT)
             };
-            let verdict = check_waiting(alloc, &row, &client, origin, (WAITS, WAITS));
+            let verdict = check_waiting(rt.alloc(), &row, &client, origin, (WAITS, WAITS));
             assert_eq!(rt;
                 verdict,
                 Ok(Finding::AsStated),
@@ -173,13 +141,11 @@ fn both_links_wait_at_each_call(rt: HostRuntime) -> Result<(), Fail> {
             );
         }
     }
-    Ok(())
 }
 
 // Pauses while a body is passed on: each link by itself makes two of them.
 #[test]
-fn a_link_that_waits_is_left_alone_for_ten_milliseconds(rt: HostRuntime) -> Result<(), Fail> {
-    let alloc = rt.alloc();
+fn a_link_that_waits_is_left_alone_for_ten_milliseconds(rt: HostRuntime) {
     let row = html(b"prepend.so <\n", b"<banana");
     let (client, origin) = (dripping_after(GET, 0), dripping_after(HTML, HTML_FRONT));
     for call in 1..=READS {
@@ -187,20 +153,19 @@ fn a_link_that_waits_is_left_alone_for_ten_milliseconds(rt: HostRuntime) -> Resu
             again_writes: (call, call + 1),
             ..client
         };
-        let verdict = check_pauses(alloc, &row, &late, Some(origin), (WAITS, 0));
+        let verdict = check_pauses(rt.alloc(), &row, &late, Some(origin), (WAITS, 0));
         assert_eq!(rt; verdict, Ok(Finding::AsStated), "write {call}");
         let late = Plan {
             again_reads: (call, call + 1),
             ..origin
         };
-        let verdict = check_pauses(alloc, &row, &client, Some(late), (0, WAITS));
+        let verdict = check_pauses(rt.alloc(), &row, &client, Some(late), (0, WAITS));
         assert_eq!(rt; verdict, Ok(Finding::AsStated), "read {call}");
     }
-    Ok(())
 }
 
 #[test]
-fn a_client_that_waits_at_its_first_writes(rt: HostRuntime) -> Result<(), Fail> {
+fn a_client_that_waits_at_its_first_writes(rt: HostRuntime) {
     let page = own(GET, b"", BAD_GATEWAY, b"502 Bad Gateway\n");
     let head = own(HEAD, b"", BAD_GATEWAY, b"");
     for row in [page, head] {
@@ -217,7 +182,6 @@ fn a_client_that_waits_at_its_first_writes(rt: HostRuntime) -> Result<(), Fail> 
             assert_eq!(rt; verdict, Ok(Finding::AsStated));
         }
     }
-    Ok(())
 }
 
 // How long the stage of a line that pauses does nothing between two of its events, in milliseconds.
@@ -232,6 +196,17 @@ fn pauses(entries: &[Entry]) -> bool {
     count >= 2 && gap >= Some(DELAY) && last_moment(entries) % DELAY == 0
 }
 
+// Whether the one stage of a row paused.
+fn has_paused(
+    alloc: Global,
+    row: &Row<'_>,
+    client: &Plan<'_>,
+    origin: Plan<'_>,
+) -> Result<bool, Refusal> {
+    let journal = journal_of(alloc, row, client, Some(origin))?;
+    Ok(pauses(journal.entries()))
+}
+
 // Whether a row comes out as stated, and its one stage paused.
 fn check_stage(
     alloc: Global,
@@ -239,18 +214,16 @@ fn check_stage(
     client: &Plan<'_>,
     origin: Plan<'_>,
 ) -> Result<Finding, Refusal> {
-    let ended = run_row(alloc, row, client, Some(origin))?;
-    if pauses(ended.journal.entries()) {
-        return judge(alloc, row, &ended.parts);
+    if !has_paused(alloc, row, client, origin)? {
+        return Ok(Finding::OtherMoment);
     }
-    Ok(Finding::OtherMoment)
+    check_between(alloc, row, client, Some(origin))
 }
 
 #[test]
-fn a_stage_pauses_between_its_events(rt: HostRuntime) -> Result<(), Fail> {
+fn a_stage_pauses_between_its_events(rt: HostRuntime) {
     let row = html(b"delay.so 5\n", b"banana");
     let origin = dripping_after(HTML, HTML_FRONT);
     let verdict = check_stage(rt.alloc(), &row, &dripping_after(GET, 0), origin);
     assert_eq!(rt; verdict, Ok(Finding::AsStated));
-    Ok(())
 }

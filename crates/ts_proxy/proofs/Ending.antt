@@ -23,7 +23,7 @@ use Rattle.ts_proxy.specs.Outcome.{Outcome, Usage, BadLine, Missing, Long, Text,
 use Rattle.ts_proxy.specs.Outcome.{lines_filled, most_append, most_config, most_input, opened}
 use Rattle.ts_proxy.specs.Outcome.{outcome_of, performed, named_filled, set_up, understood, worked}
 use Rattle.ts_proxy.specs.Idle.{first_idle}
-use Rattle.ts_proxy.specs.Performed.{IsPerformed, NamesFiles}
+use Rattle.ts_proxy.specs.Performed.{IsPerformed}
 use Rattle.ts_proxy.specs.Took.{TookSome, TookWhole}
 use Rattle.ts_proxy.specs.Words.{Command, Transform, Replay, Task, Over, Make, Serve, config_in, input_in}
 use Rattle.ts_proxy.specs.Words.{Serves, is_told}
@@ -259,7 +259,7 @@ ends-of-files config input a.Network o of h = absurd h
 
 -- and at a summary, where no file is named
 ends-of-made : (numbers : GenerateTask) (answer : Answer) → ComesAt [] [] answer (Summary numbers)
-    → OnCannotRead answer (λ f. ⊥) → EndsAt (Summary numbers) (status_of answer)
+    → OnCannotRead answer (HasFile (Make numbers)) → EndsAt (Summary numbers) (status_of answer)
 ends-of-made numbers a.Done h none = inl refl
 ends-of-made numbers a.Usage h none = absurd (let wrong : Summary numbers ≡ Usage = h in cc)
 ends-of-made numbers (a.BadLine f) h none = absurd
@@ -298,7 +298,7 @@ ends-of-served config a.Network o of h = absurd h
 -- by the task
 ends-at : (shelf : ShelfSeen) (task : Task) (answer : Answer)
     → ComesAt (config_in task) (input_in task) answer (outcome_of shelf (Some task))
-    → OnCannotRead answer (λ f. NamesFiles task) → EndsAt (outcome_of shelf (Some task)) (status_of answer)
+    → OnCannotRead answer (HasFile task) → EndsAt (outcome_of shelf (Some task)) (status_of answer)
 ends-at shelf (Over command config input) answer h named =
     ends-of-files config input answer (performed command shelf.file config input)
     (performed-of command shelf.file config input) h

@@ -19,7 +19,8 @@ use Rattle.ts_replay.specs.Recorded.{HasPlainLines}
 use Rattle.ts_proxy.specs.Idle.{first_idle}
 use Rattle.ts_proxy.specs.Outcome.{Outcome, Text, place_filled, lines_filled, most_config}
 use Rattle.ts_proxy.proofs.ActingLines.{acting-read}
-use Rattle.ts_proxy.specs.Answers.{HasOutput, IsNamedAt, IsReadBy, KeepsLines, ReachesFile, ReachesIn, OnCannotRead}
+use Rattle.ts_proxy.specs.Answers.{HasOutput, IsNamedAt, IsOfConfig, IsReadBy, KeepsLines, OnCannotRead}
+use Rattle.ts_proxy.specs.Answers.{ReachesFile, ReachesIn}
 
 -- the lines at all places but those that are left were filled, so the work comes to what it comes to on these
 pub record FillsBut (files : List ℕ → Option (List ℕ)) (all : List FilePlace) (lines : ConfigLines)
@@ -89,6 +90,25 @@ stopped-comes files all lines left left' place now a.CannotWrite before is names
 stopped-comes files all lines left left' place now a.OutOfMemory before is names = tt
 stopped-comes files all lines left left' place now (a.TooLong f) before is names = tt
 stopped-comes files all lines left left' place now a.Network before is names = tt
+
+-- it is a file of the configuration
+names-config : (lines : ConfigLines) (place : FilePlace) (f : NamedFile) → IsNamedAt lines place f
+    → IsOfConfig f
+names-config lines place file.Config names = absurd names
+names-config lines place file.Input names = absurd names
+names-config lines place (file.Appended name) names = tt
+
+pub named-in-config : (lines : ConfigLines) (place : FilePlace) (answer : Answer)
+    → OnCannotRead answer (IsNamedAt lines place) → OnCannotRead answer IsOfConfig
+named-in-config lines place a.Done names = tt
+named-in-config lines place a.Usage names = tt
+named-in-config lines place (a.BadLine b) names = tt
+named-in-config lines place (a.BadRecording offset) names = tt
+named-in-config lines place (a.CannotRead f) names = names-config lines place f names
+named-in-config lines place a.CannotWrite names = tt
+named-in-config lines place a.OutOfMemory names = tt
+named-in-config lines place (a.TooLong f) names = tt
+named-in-config lines place a.Network names = tt
 
 -- the places from the k-th on begin with it
 pub cut-at : (all held : List FilePlace) (k : ℕ) (place : FilePlace) → held ≡ all → k + 1 ≤ length all

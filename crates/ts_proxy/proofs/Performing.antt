@@ -99,7 +99,7 @@ performed-worked command config input tells out_tells shelf shelf' out out' answ
     record {
       comes = λ tell. subst (ComesAt config input answer) (sym (told tell command)) (work.comes config input);
       named = λ tell. work-names answer out out' (IsReadBy shelf config) work.cause;
-      of_files = work-names answer out out' (λ f. ⊤) work.cause;
+      of_files = work-names answer out out' (HasFile (Over command config input)) work.cause;
       took = λ tell out_tell. subst (TookAt answer out out') (sym (told tell command)) (work.took out_tell);
       quiet = work.quiet;
       cause = work-caused answer shelf shelf' out out' read work.cause;
@@ -170,17 +170,17 @@ reading-leaves-at a.OutOfMemory shelf shelf' o h = tt
 reading-leaves-at (a.TooLong f) shelf shelf' o h = tt
 reading-leaves-at a.Network shelf shelf' o h = tt
 
--- whatever file an answer names
-names-any : (answer : Answer) → OnCannotRead answer (λ f. ⊤)
-names-any a.Done = tt
-names-any a.Usage = tt
-names-any (a.BadLine f) = tt
-names-any (a.BadRecording offset) = tt
-names-any (a.CannotRead f) = tt
-names-any a.CannotWrite = tt
-names-any a.OutOfMemory = tt
-names-any (a.TooLong f) = tt
-names-any a.Network = tt
+-- what holds of whatever file an answer may name
+names-any : (P : NamedFile → Type 0) → ((f : NamedFile) → P f) → (answer : Answer) → OnCannotRead answer P
+names-any P all a.Done = tt
+names-any P all a.Usage = tt
+names-any P all (a.BadLine f) = tt
+names-any P all (a.BadRecording offset) = tt
+names-any P all (a.CannotRead f) = all f
+names-any P all a.CannotWrite = tt
+names-any P all a.OutOfMemory = tt
+names-any P all (a.TooLong f) = tt
+names-any P all a.Network = tt
 
 -- the files of a command were not read
 pub performed-unread : (command : Command) (config input : List ℕ) (tells out_tells : Bool)
@@ -194,7 +194,7 @@ performed-unread command config input tells out_tells shelf shelf' out answer js
     record {
       comes = λ tell. told tell command;
       named = named;
-      of_files = names-any answer;
+      of_files = names-any (HasFile (Over command config input)) (λ f. tt) answer;
       took = λ tell out_tell. reading-took answer shelf shelf' out o cause;
       quiet = quiet-by answer (out ≡ out) refl;
       cause = reading-caused answer shelf shelf' out cause;
@@ -218,7 +218,7 @@ pub performed-made : (numbers : GenerateTask) (tells out_tells : Bool) (shelf : 
 performed-made numbers tells out_tells shelf out out' answer js work = record {
   comes = λ tell. work.comes [] [];
   named = λ tell. work-names answer out out' (IsReadBy shelf []) work.cause;
-  of_files = work-names answer out out' (λ f. ⊥) work.cause;
+  of_files = work-names answer out out' (HasFile (Make numbers)) work.cause;
   took = λ tell out_tell. work.took out_tell;
   quiet = work.quiet;
   cause = work-caused answer shelf shelf out out' (record { faults = refl; longs = refl }) work.cause;

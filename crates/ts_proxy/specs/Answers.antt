@@ -19,6 +19,7 @@ use Rattle.ts_proxy.specs.Idle.{first_idle}
 use Rattle.ts_proxy.specs.Outcome.{lines_filled, most_config, set_up}
 use Rattle.ts_proxy.specs.Summary.{IsSummaryOf}
 use Rattle.ts_proxy.specs.Took.{TookNothing, TookSome, TookWhole}
+use Rattle.ts_proxy.specs.Words.{Task, Over, Make, Serve}
 use Rattle.ts_record.specs.Offsets.{IsRefusedAt}
 
 -- the name of a file of a command with these names of its configuration and its input
@@ -120,6 +121,23 @@ abbrev pub IsReadBy : ShelfSeen → List ℕ → NamedFile → Type 0
 IsReadBy shelf config file.Config = ⊤
 IsReadBy shelf config file.Input = HasOutput (set_up shelf.file config (λ lines. Text []))
 IsReadBy shelf config (file.Appended name) = IsReadFor shelf.file config (file.Appended name)
+
+-- the file is a configuration, or one that a line of it names
+abbrev pub IsOfConfig : NamedFile → Type 0
+IsOfConfig file.Input = ⊥
+IsOfConfig _ = ⊤
+
+-- A task has the file: its configuration, and the files that the lines of that name; and its input, where it
+-- has one.
+abbrev pub HasFile : Task → NamedFile → Type 0
+HasFile (Over command config input) f = ⊤
+HasFile (Make numbers) f = ⊥
+HasFile (Serve words) f = IsOfConfig f
+
+-- the same of the task of words, if they are of a command
+abbrev pub HasFileIf : Option Task → NamedFile → Type 0
+HasFileIf None f = ⊥
+HasFileIf (Some task) f = HasFile task f
 
 -- what is said of the file of a failed read
 abbrev pub OnCannotRead : Answer → (NamedFile → Type 0) → Type 0

@@ -3,14 +3,12 @@ use Rattle.std.specs.Prelude.{ℕ, ◌+◌, Bool, true, false, List, [], ◌∷�
 use Rattle.ts_config.specs.declared.fields.PluginLine.TheVariants.{SessionHeader}
 use Rattle.ts_config.specs.declared.setup.ConfigKind.{ConfigKind}
 use Rattle.ts_config.specs.declared.setup.LineMeaning.{LineMeaning}
-use Rattle.ts_config.specs.declared.setup.LineMeaning.TheVariants.{Intercept, Plugin, Tap}
+use Rattle.ts_config.specs.declared.setup.LineMeaning.TheVariants.{Plugin}
 use Rattle.ts_config.specs.Lines.{config_lines}
 use Rattle.ts_config.specs.Value.{meaning_of}
 
--- a line of an intercept, a tap or a session
+-- a rule of a session
 abbrev pub is_idle : LineMeaning → Bool
-is_idle (Intercept line) = true
-is_idle (Tap most) = true
 is_idle (Plugin (SessionHeader side rule)) = true
 is_idle other = false
 

@@ -7,7 +7,7 @@ use Rattle.ts_proxy.specs.declared.answer.Answer.{Answer}
 use Rattle.ts_proxy.specs.declared.answer.Answer.TheVariants as a
 use Rattle.ts_config.specs.declared.setup.ConfigKind.{ConfigKind}
 use Rattle.ts_config.specs.declared.setup.ConfigKind.TheVariants as k
-use Rattle.ts_proxy.specs.Answers.{file_name, ComesAt, IsReadBy, OnCannotRead}
+use Rattle.ts_proxy.specs.Answers.{file_name, ComesAt, HasFileIf, IsReadBy, OnCannotRead}
 use Rattle.ts_proxy.specs.Ends.{status_of}
 use Rattle.ts_proxy.specs.Outcome.{outcome_of}
 use Rattle.ts_proxy.specs.Took.{TookAll, TookFront}
@@ -50,11 +50,12 @@ pub record LineTold (old new : SinkSeen) (line : List ℕ) : Type 0 where
   pub whole : TookAll old new line ⊎ Rose old.faults new.faults ⊎ Rose old.lacks new.lacks
 
 -- An answer to a task, over a shelf that tells its files or not: it comes at the outcome, and after a failed
--- read it names a file that the work comes to.
+-- read it names a file that the task has, and that the work comes to.
 pub record IsAnswerOf (tells : Bool) (shelf : ShelfSeen) (task : Option Task) (answer : Answer) : Type 0 where
   pub comes : is_told tells task ≡ true
       → ComesAt (config_name task) (input_name task) answer (outcome_of shelf task)
   pub named : is_told tells task ≡ true → OnCannotRead answer (IsReadBy shelf (config_name task))
+  pub has : OnCannotRead answer (HasFileIf task)
 
 -- an answer has this status, and its line was told to a sink that tells what it took or not
 pub record SaysLine (tells : Bool) (old new : SinkSeen) (task : Option Task) (n : ℕ) (answer : Answer)

@@ -3,8 +3,8 @@ use Rattle.std.specs.Prelude.{◌≡◌, ℕ, List, [], ◌∷◌, ⊤, All, Boo
 use Rattle.ts_config.specs.Setup.{ConfigLines}
 use Rattle.ts_journal.specs.Log.{Log}
 use Rattle.ts_link.specs.Seen.{ShelfSeen, SinkSeen}
-use Rattle.ts_proxy.specs.Answers.{ComesAt, HasOutput, IsCausedBy, IsOfWork, IsReadBy, IsTextOf, OnCannotRead}
-use Rattle.ts_proxy.specs.Answers.{OnNetwork, OnQuiet, TookAt}
+use Rattle.ts_proxy.specs.Answers.{ComesAt, HasFile, HasOutput, IsCausedBy, IsOfWork, IsReadBy, IsTextOf}
+use Rattle.ts_proxy.specs.Answers.{OnCannotRead, OnNetwork, OnQuiet, TookAt}
 use Rattle.ts_proxy.specs.Journals.{IsOfDriver}
 use Rattle.ts_proxy.specs.Outcome.{Outcome, Report, Summary, outcome_of}
 use Rattle.ts_proxy.specs.Summary.{fixed_lines, txns_of}
@@ -61,12 +61,6 @@ abbrev pub LeavesJournalsAt : Answer → Outcome → List Log → Type 0
 LeavesJournalsAt a.Done o js = AreJournalsAt o js
 LeavesJournalsAt _ o js = ⊤
 
--- a task names files
-abbrev pub NamesFiles : Task → Type 0
-NamesFiles (Over command config input) = ⊤
-NamesFiles (Make numbers) = ⊥
-NamesFiles (Serve words) = ⊤
-
 -- where a task names no file, and where there is none, what a shelf shows stays
 abbrev pub LeavesShelf : Option Task → ShelfSeen → ShelfSeen → Type 0
 LeavesShelf (Some (Over command config input)) old new = ⊤
@@ -103,7 +97,7 @@ pub record IsPerformed (task : Task) (tells out_tells : Bool) (shelf shelf' : Sh
   pub comes : is_told tells (Some task) ≡ true
       → ComesAt (config_in task) (input_in task) answer (outcome_of shelf (Some task))
   pub named : is_told tells (Some task) ≡ true → OnCannotRead answer (IsReadBy shelf (config_in task))
-  pub of_files : OnCannotRead answer (λ f. NamesFiles task)
+  pub of_files : OnCannotRead answer (HasFile task)
   pub took : is_told tells (Some task) ≡ true → out_tells ≡ true
       → TookAt answer out out' (outcome_of shelf (Some task))
   pub quiet : OnQuiet answer (out' ≡ out)

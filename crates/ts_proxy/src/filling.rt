@@ -5,7 +5,8 @@ ghost use Rattle.ts_config.specs.Setup.{ConfigLines, HasNamedFiles, file_at, lin
 ghost use Rattle.ts_proxy.specs.declared.answer.Answer.TheVariants as a;
 ghost use Rattle.ts_proxy.specs.declared.answer.NamedFile.TheVariants as named;
 ghost use Rattle.ts_proxy.specs.Outcome.{Outcome, most_append, opened, place_filled, lines_filled};
-ghost use Rattle.ts_proxy.specs.Answers.{Leads, IsOfReading, IsUnfailed, KeepsLines, OnCannotRead, IsNamedAt, ReachesFile};
+ghost use Rattle.ts_proxy.specs.Answers.{Leads, IsOfConfig, IsOfReading, IsUnfailed, KeepsLines};
+ghost use Rattle.ts_proxy.specs.Answers.{IsNamedAt, OnCannotRead, ReachesFile};
 
 use crate::answer::{Answer, NamedFile, refused};
 use std::alloc::Global;
@@ -90,6 +91,7 @@ pub fn fill_setup<S: Shelf>(alloc: Global, shelf: &mut S, mut setup: Setup) -> R
         (λ s. next (lines_of s)) }
     ensures named { S.tells ≡ true → IfErr result (λ e. OnCannotRead e
         (ReachesFile (S.seen shelf.old).file setup.files.items (lines_of setup))) }
+    ensures of_line { IfErr result (λ e. OnCannotRead e IsOfConfig) }
     ensures lines { IfOk result (KeepsLines setup) }
     ensures files { S.tells ≡ true → (S.seen shelf.new).file ≡ (S.seen shelf.old).file }
     ensures same { OnOk result (IsUnfailed (S.seen shelf.old) (S.seen shelf.new)) }

@@ -11,7 +11,6 @@ fn is_idle(meaning: &LineMeaning) -> bool
     ensures { result ≡ is_idle meaning.now }
 {
     match meaning {
-        LineMeaning::Intercept(_) | LineMeaning::Tap(_) => true,
         LineMeaning::Plugin(PluginLine::SessionHeader { .. }) => true,
         _ => false,
     }

@@ -6,7 +6,7 @@ ghost use Rattle.ts_config.specs.declared.setup.ConfigKind.TheVariants as k;
 ghost use Rattle.ts_proxy.specs.declared.answer.Answer.TheVariants as a;
 ghost use Rattle.ts_proxy.specs.Outcome.{Outcome, performed, set_up, worked};
 ghost use Rattle.ts_proxy.specs.Words.{Command};
-ghost use Rattle.ts_proxy.specs.Answers.{Leads, IsOfReading, IsUnfailed, OnCannotRead, IsReadBy};
+ghost use Rattle.ts_proxy.specs.Answers.{Leads, IsOfConfig, IsOfReading, IsUnfailed, OnCannotRead, IsReadBy};
 ghost use Rattle.ts_replay.specs.Recorded.{HasPlainLines};
 
 use crate::answer::{Answer, NamedFile, refused};
@@ -46,6 +46,7 @@ pub fn set_up<S: Shelf>(alloc: Global, shelf: &mut S, config: &str) -> Result<Se
         (λ s. next (lines_of s)) }
     ensures named { S.tells ≡ true →
         IfErr result (λ e. OnCannotRead e (IsReadBy (S.seen shelf.old) config.now)) }
+    ensures of_config { IfErr result (λ e. OnCannotRead e IsOfConfig) }
     ensures lines { IfOk result HasPlainLines }
     ensures files { S.tells ≡ true → (S.seen shelf.new).file ≡ (S.seen shelf.old).file }
     ensures same { OnOk result (IsUnfailed (S.seen shelf.old) (S.seen shelf.new)) }

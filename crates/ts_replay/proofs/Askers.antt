@@ -4,14 +4,14 @@ use Rattle.std.proofs.Common.{◌≡◌, ◌≢◌, ℕ, zero, suc, ◌+◌, ◌
 use Rattle.std.proofs.Common.{length-append, map, true, false, refl, sym, ap, subst, ◌∙◌, arith}
 use mathlib.Core.Option.{some}
 use lib.ListN.{get_elem?}
-use Rattle.std.specs.Prelude.{IsSome, None, Option, Some, slice_get, ⊤}
+use Rattle.std.specs.Prelude.{IsSome, Option, Some, slice_get}
 use Rattle.std.specs.List.{AllZip}
 use Rattle.std.proofs.lemmas.List.{length-map}
 use Rattle.std.proofs.lemmas.Option.{same_Some}
 use Rattle.std.proofs.lemmas.Slice.Zip.{AllZip-long}
 use Rattle.ts_config.specs.declared.fields.PluginLine.{PluginLine}
 use Rattle.ts_config.specs.declared.setup.Setup.{Setup}
-use Rattle.ts_group.specs.Either.{EitherAnswers, EitherMayAsk, EitherRight, either_left}
+use Rattle.ts_group.specs.Either.{either_left}
 use Rattle.ts_group.specs.declared.either.Either.TheVariants.{One, Other}
 use Rattle.ts_group.specs.declared.either.EitherTag.TheVariants as kind
 use Rattle.ts_journal.specs.State.{State}
@@ -25,24 +25,24 @@ use Rattle.ts_record.specs.declared.recording.TheConstants.{MOST_TXNS}
 use Rattle.ts_replay.specs.Members.{HookPlugin, members, numbered}
 use Rattle.ts_replay.specs.Recorded.{FitsIn, HasPlainLines, IsNewTagOf, IsOfRowTag, IsOfTag, Recorded}
 use Rattle.ts_replay.specs.Recorded.{RecordedCarrier, RecordedFront, RecordedTag, RowGroup, RowTag, RowWorld}
-use Rattle.ts_replay.specs.Recorded.{layered_client, layered_link, layered_origin}
+use Rattle.ts_replay.specs.Recorded.{layered_client, layered_link, layered_origin, recorded_origin}
+use Rattle.ts_replay.specs.Running.{IsAnswer, IsRight, MayAsk, RowTells}
 use Rattle.ts_stock.specs.StockTransform.{stock_transform}
 use Rattle.ts_stock.specs.declared.stock.State.{State as StockState}
-use Rattle.ts_upstream.specs.Uploads.{both}
-use Rattle.ts_phases.specs.View.{side_if, upload_told}
 use Rattle.ts_phases.specs.declared.parts.Core.{Core}
-use Rattle.ts_phases.specs.declared.parts.Peer.{Peer}
 use Rattle.ts_journal.specs.declared.entry.Pending.{Pending}
 use Rattle.ts_txn.specs.LoweringCourse.{transaction_left}
 use Rattle.ts_txn.specs.declared.course.Course.{Course}
-use Rattle.ts_txn.proofs.Telling.{tells}
+use Rattle.ts_txn.specs.declared.txn.Txn.{Txn}
+use Rattle.ts_upstream.specs.InMemory.{memory_link}
 use Rattle.ts_exchange.specs.Rows.{is_asked_only}
+use Rattle.ts_exchange.specs.Rows as rows
+use Rattle.ts_layers.proofs.Telling.{layers_tell}
 use Rattle.ts_replay.specs.Rows.{AreGroupsOf}
 use Rattle.ts_txn.specs.declared.making.TheConstants.{MOST_GROUPS}
 use Rattle.ts_thread.specs.Started.{CanStart}
 use Rattle.ts_thread.specs.Tags.{CanAsk}
 use Rattle.ts_txn.specs.Asking.{IsRightFor, MayAskGroup}
-use Rattle.ts_txn.specs.World.{LetsContinue}
 
 -- ---- how many there are
 
@@ -86,30 +86,27 @@ row_starts setup txns tags starts are all k low =
 
 -- ---- what is left to do
 
--- two recorded sides with their layers tell how many Again answers they have left, and how much upload
-layers_again : (c : RecordedFront) (o : Option (Peer RecordedCarrier))
-    → IsSome (both (layered_client.look c).agains (side_if layered_link.look o).look.agains)
-layers_again c None = refl
-layers_again c (Some p) = refl
-
-layers_upload : (c : RecordedFront) (o : Option (Peer RecordedCarrier))
-    → IsSome (upload_told layered_origin.upload_left c o)
-layers_upload c None = refl
-layers_upload c (Some p) = refl
-
--- so a transaction between them tells what it has left to do
-pub layers_tell : (core : Core RecordedFront RecordedCarrier) (course : Course StockState)
-    (pending : List Pending)
+-- a transaction between two recorded sides with their layers tells it
+sides_tell : (core : Core RecordedFront RecordedCarrier) (course : Course StockState) (pending : List Pending)
     → IsSome (transaction_left layered_client layered_link layered_origin stock_transform core course pending)
-layers_tell core course pending =
-    tells layered_client layered_link layered_origin stock_transform core course pending refl refl
-    (layers_again core.client.link core.origin) (layers_upload core.client.link core.origin)
+sides_tell core course pending =
+    layers_tell memory_link memory_link recorded_origin stock_transform refl refl (λ c. refl) (λ o. refl)
+    (λ c o. refl) core course pending
 
--- where a transaction tells it, each world of the row does
-pub row_tells : (left : Recorded → State → Option ℕ) (s : State) → ((t : Recorded) → IsSome (left t s))
-    → (w : RowWorld) → IsSome (either_left left (λ (p : Plugin) (s : State). Some (length s.pending)) w s)
-row_tells left s tells (One t) = tells t
-row_tells left s tells (Other p) = refl
+-- where a transaction does, each world of a row does
+world_tells : {C O Q : Type 0} (left : Txn C O Q → State → Option ℕ) (s : State)
+    → ((t : Txn C O Q) → IsSome (left t s)) → (w : rows.RowWorld C O Q)
+    → IsSome (either_left left (λ (p : Plugin) (s : State). Some (length s.pending)) w s)
+world_tells left s tells (One t) = tells t
+world_tells left s tells (Other p) = refl
+
+-- and so each group of the row
+pub row_tells : (tags : List RowTag)
+    → RowTells layered_client layered_link layered_origin stock_transform tags
+row_tells tags k d low h fits =
+    world_tells (λ (t : Recorded) (s : State).
+    transaction_left layered_client layered_link layered_origin stock_transform t.core t.course s.pending)
+    h.cx.log.state (λ t. sides_tell t.core t.course h.cx.log.state.pending) h.world
 
 -- ---- where a plugin stands
 
@@ -194,18 +191,6 @@ module _ (setup : Setup) (at : ℕ) where
 
 -- ---- who asks whom
 
--- whom a world of the row may ask, which replies are right for it, and which it gives
-abbrev pub RowMayAsk : RowWorld → ℕ → Type 0
-RowMayAsk = EitherMayAsk (λ (t : Recorded) (k : ℕ). MayAskGroup t k) (λ (p : Plugin) (k : ℕ). ⊥)
-
-abbrev pub RowRight : RowWorld → ℕ → HookQuestion → HookReply → Type 0
-RowRight = EitherRight (λ (t : Recorded) (k : ℕ) (q : HookQuestion) (r : HookReply). IsRightFor t k q r)
-    (λ (p : Plugin) (k : ℕ) (q : HookQuestion) (r : HookReply). ⊤)
-
-abbrev pub RowAnswers : RowWorld → HookQuestion → HookReply → Type 0
-RowAnswers = EitherAnswers (λ (t : Recorded) (q : HookQuestion) (r : HookReply). LetsContinue q r)
-    (λ (p : Plugin) (q : HookQuestion) (r : HookReply). IsReplyOf p.line q r)
-
 -- a place below the length has a line
 line_at : (lines : List PluginLine) (place : ℕ) → place < length lines
     → (line : PluginLine) × (slice_get lines place ≡ Some line)
@@ -215,7 +200,7 @@ line_at (l ∷ ls) (suc place) below = line_at ls place (omega arith)
 
 -- what a world replies that fits the tag of a plugin is what the line says
 reply_of_tag : (tag : PluginTag) (line : PluginLine) (v : RowWorld) (q : HookQuestion) (r : HookReply)
-    → tag.line.value ≡ line → IsOfRowTag (kind.Other tag) v → RowAnswers v q r → IsReplyOf line q r
+    → tag.line.value ≡ line → IsOfRowTag (kind.Other tag) v → IsAnswer v q r → IsReplyOf line q r
 reply_of_tag tag line (One x) q r is fits answers = absurd fits
 reply_of_tag tag line (Other p) q r is fits answers = subst (λ l. IsReplyOf l q r) (fits ∙ is) answers
 
@@ -252,7 +237,7 @@ module _ (setup : Setup) (txns : List TxnPieces) (tags : List RowTag)
   -- and what that replies is right
   right_of : (j k : ℕ) (t : RecordedTag) (u : RowTag) (x : Recorded) (v : RowWorld) (q : HookQuestion)
       (r : HookReply) → slice_get tags j ≡ Some (kind.One t) → IsOfTag t x → slice_get tags k ≡ Some u
-      → IsOfRowTag u v → RowAnswers v q r → IsRightFor x k q r
+      → IsOfRowTag u v → IsAnswer v q r → IsRightFor x k q r
   right_of j k t u x v q r there fits at fit answers place line is group =
       let own = own_tag j t there in
       let stands = ap (λ (s : Setup). slice_get s.plugins.items place) (sym (fits.setup ∙ own.setup_is))
@@ -264,7 +249,7 @@ module _ (setup : Setup) (txns : List TxnPieces) (tags : List RowTag)
       reply_of_tag p.tag line v q r p.line_is (subst (λ w. IsOfRowTag w v) same fit) answers
 
   others : (j k : ℕ) (t : RowTag) (w : RowWorld) → slice_get tags j ≡ Some t → IsOfRowTag t w
-      → RowMayAsk w k
+      → MayAsk w k
       → (j ≢ k) × (u : RowTag) × (slice_get tags k ≡ Some u) × (is_asked_only u ≡ true)
   others j k (kind.One t) (One x) there fits may = asks_behind j k t x there fits may
   others j k (kind.One t) (Other p) there fits may = absurd fits
@@ -273,7 +258,7 @@ module _ (setup : Setup) (txns : List TxnPieces) (tags : List RowTag)
 
   replies : (j k : ℕ) (t u : RowTag) (w v : RowWorld) (q : HookQuestion) (r : HookReply)
       → slice_get tags j ≡ Some t → IsOfRowTag t w → slice_get tags k ≡ Some u → IsOfRowTag u v
-      → RowAnswers v q r → RowRight w k q r
+      → IsAnswer v q r → IsRight w k q r
   replies j k (kind.One t) u (One x) v q r there fits at fit answers =
       right_of j k t u x v q r there fits at fit answers
   replies j k (kind.One t) u (Other p) v q r there fits at fit answers = tt
@@ -281,5 +266,5 @@ module _ (setup : Setup) (txns : List TxnPieces) (tags : List RowTag)
   replies j k (kind.Other t) u (Other p) v q r there fits at fit answers = tt
 
   -- the groups of a row can ask each other
-  pub row_asks : CanAsk IsOfRowTag is_asked_only RowMayAsk RowRight RowAnswers tags
+  pub row_asks : CanAsk IsOfRowTag is_asked_only MayAsk IsRight IsAnswer tags
   row_asks = record { others = others; replies = replies }

@@ -133,6 +133,7 @@ txn_comes : (setup : Setup) (at number : ℕ) (txn : TxnPieces) (g : RowGroup) (
     (old new : List ReportBlock) → (ran : HasRunAs setup at number txn g) → AddsBlock (One ran.txn) old new
     → IsKept g.cx.log → AreShown setup (txns_among done) old → AreReported old
     → ComesOn setup at done (Transaction number txn) g new
+unfolding run_between
 txn_comes setup at number txn g done old new ran (b, longer, tells) kept shown reported =
     let between = run_between setup at number txn g ran in
     let here : IsTxnShown setup txn b = tells.shown setup (sides_of txn) between in
@@ -141,6 +142,7 @@ txn_comes setup at number txn g done old new ran (b, longer, tells) kept shown r
         ran = ran;
         ended = ended_as txn.leave (end_of_course ran.txn.course) b.end
             (tells.ended setup (sides_of txn) between);
+        chose = tells.chose setup (sides_of txn) between;
       };
       shown = subst (λ ts. AreShown setup ts new) (sym (among_more done number txn))
           (subst (AreShown setup (txns_among done ++ txn ∷ [])) (sym longer)

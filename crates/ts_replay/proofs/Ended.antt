@@ -213,12 +213,12 @@ none_done setup at (m ∷ ms) (tag ∷ tags) groups row none =
 -- ---- what a transaction's block is made of
 
 -- a recorded side that took nothing yet leaves after as many bytes as the recording says
-side_leaves : (leave : Option ℕ) → option_map (λ m. 0 + m) leave ≡ leave
+pub side_leaves : (leave : Option ℕ) → option_map (λ m. 0 + m) leave ≡ leave
 side_leaves None = refl
 side_leaves (Some most) = let all : 0 + most ≡ most = omega arith in ap Some all
 
 -- a transaction that has run did so between its two sides
-pub run_between : (setup : Setup) (at number : ℕ) (txn : TxnPieces) (g : RowGroup)
+unfoldable pub run_between : (setup : Setup) (at number : ℕ) (txn : TxnPieces) (g : RowGroup)
     → (ran : HasRunAs setup at number txn g) → IsRunBetween setup (sides_of txn) ran.txn
 run_between setup at number txn g ran = record {
   ends = recorded_ends setup at number txn;

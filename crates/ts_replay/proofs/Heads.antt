@@ -1,14 +1,15 @@
 -- The heads that a transaction sends are those of its block, and all bytes of both sides have at most one
 -- pair of them.
 use Rattle.std.proofs.Common.{◌≡◌, ◌∙◌, ℕ, List, Result, true, Ok, inl, inr, sym, ap, subst}
-use Rattle.ts_block.specs.Block.{AnswerSays, BodySays, DenySays, DialSays, IsBlock, IsGood, LacksAnswer}
-use Rattle.ts_block.specs.Block.{VerdictSays, asked, bad, bad_status, cut, early, ended, faulty, lacking}
+use Rattle.ts_block.specs.Block.{AnswerSays, BodySays, DenySays, DialSays, IsBlock, IsGood, IsRequestOf}
+use Rattle.ts_block.specs.Block.{LacksAnswer, VerdictSays, asked, bad, bad_status, cut, early, ended, faulty, lacking}
 use Rattle.ts_block.specs.Block.{no_final}
 use Rattle.ts_block.specs.Block.{no_head, relayed_head, request_text, silent}
 use Rattle.ts_block.specs.Block as block
 use Rattle.ts_block.specs.Heads.{FinalHead, is_refused_status}
 use Rattle.ts_block.specs.Relayed.{framing_of}
 use Rattle.ts_block.specs.declared.block.Block.{Block}
+use Rattle.ts_block.proofs.BlockRequest.{block_request}
 use Rattle.ts_block.proofs.OneBlock.{one_block}
 use Rattle.ts_block.proofs.OneHead.{one_final, one_request, true_not_false}
 use Rattle.ts_config.specs.declared.setup.Setup.{Setup}
@@ -90,6 +91,24 @@ module _ (setup : Setup) (refused : Type 0) (c o : List ℕ) where
 pub heads_of_block : AreHeadsOfBlock
 heads_of_block setup client shown o request head b sends has =
     heads_by setup (RefusesUpload setup.requests.items client) shown o request head b sends has
+
+-- ---- their request is that of the client's bytes
+
+pub heads_request : (setup : Setup) (refused : Type 0) (c o request head : List ℕ)
+    → SendsHeads setup refused c o request head → IsRequestOf setup true c request
+heads_request setup refused c o request head (decided b says is be) =
+    subst (IsRequestOf setup true c) (sym is) (block_request setup true refused o c b says)
+heads_request setup refused c o request head (passed_on q h rest goes accepts final good is be) =
+    block.sent_on q.head q.target q.host
+    (record {
+      some = goes.knows.some;
+      rest = goes.knows.rest;
+      reads = goes.knows.reads;
+      passes = goes.knows.passes;
+      allowed = goes.allowed;
+      has_origin = goes.has_origin;
+    })
+    is
 
 -- ---- there is one pair
 

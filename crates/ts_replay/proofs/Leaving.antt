@@ -28,16 +28,18 @@ use Rattle.ts_phases.proofs.Uploading.{took_request}
 use Rattle.ts_record.specs.Links.{GoesAsRecorded}
 use Rattle.ts_record.specs.Report.{IsReported}
 use Rattle.ts_record.specs.declared.report.ReportBlock.{ReportBlock}
-use Rattle.ts_replay.specs.AtOrigin.{StandsAt}
+use Rattle.ts_replay.specs.AtOrigin.{StandsAt, answer_to}
 use Rattle.ts_replay.specs.Exchanged.{LeavesHeads, MayEnd, ShowsEnd}
 use Rattle.ts_replay.specs.Heads.{SendsHeads}
 use Rattle.ts_replay.specs.Heads as heads
 use Rattle.ts_replay.specs.Recorded.{TakesSome}
 use Rattle.ts_replay.specs.Reports.{BothSides, IsShownBy, IsShownOf, left_report}
 use Rattle.ts_replay.specs.declared.at_origin.AtOrigin.{AtOrigin}
+use Rattle.ts_replay.proofs.Answering.{AnswersHead, none_sent}
 use Rattle.ts_replay.proofs.Blocks.{request_sent}
+use Rattle.ts_replay.proofs.SentHead.{IsOneSent, ends_some, sent_ends}
 use Rattle.ts_replay.proofs.Standing.{Refused, StandsEnded, TakesUpTo, takes_up_to, viewed}
-use Rattle.ts_replay.proofs.Telling.{block_taken, same_block}
+use Rattle.ts_replay.proofs.Telling.{Arrived, block_taken, same_block}
 use Rattle.ts_request.specs.Upload.{Strips}
 use Rattle.ts_wire.specs.Frames.{frames}
 
@@ -70,22 +72,37 @@ head_before taken waits head more most text few (inr full) = by_length (cases_lt
 
 -- ---- the heads that were sent
 
+-- what answers a request that was sent is all that its link gave and may still give
+answer_there : (setup : Setup) (sides : BothSides) (left : PlainExchange LinkState LinkState) (kept : List ℕ)
+    (s : StandsEnded setup sides left kept) (request : List ℕ) → IsOneSent request
+    → (a : Arrived setup sides left kept s request)
+    → all_of s.origin.look ≡ answer_to setup.intercepts.items a.at.request sides.origin
+answer_there setup sides left kept s request one a = by_head a.answers
+  where
+    by_head : AnswersHead setup.intercepts.items a.at.request sides.origin (all_of s.origin.look)
+        → all_of s.origin.look ≡ answer_to setup.intercepts.items a.at.request sides.origin
+    by_head (inl none) =
+        absurd (ends_some request (sent_ends request one)
+        (none_sent setup.requests.items sides.client request a.at a.stands (inr one) none))
+    by_head (inr is) = is
+
 -- the heads of a transaction that left this and whose client leaves after so many bytes, and what is at its
 -- origin
 pub record HasHeadsAt (setup : Setup) (sides : BothSides) (left : PlainExchange LinkState LinkState)
-    (link : LinkState) (most : ℕ) : Type 0 where
+    (kept : List ℕ) (most : ℕ) : Type 0 where
   pub shown : List ℕ
   pub strips : Strips sides.client shown
   pub request : List ℕ
   pub head : List ℕ
-  pub sends : SendsHeads setup (Refused setup sides) shown sides.origin request head
   pub at : AtOrigin
   pub stands : StandsAt setup.requests.items sides.client request at
-  pub leaves : LeavesHeads left link most at head
+  pub sends : SendsHeads setup (Refused setup sides) shown
+      (answer_to setup.intercepts.items at.request sides.origin) request head
+  pub leaves : LeavesHeads left kept most at head
   pub may : IsSomeAnd left.parts.end (MayEnd (Some most))
 
-module _ (setup : Setup) (sides : BothSides) (left : PlainExchange LinkState LinkState) (link : LinkState)
-    (s : StandsEnded setup sides left link) (most : ℕ) (some : 1 ≤ most)
+module _ (setup : Setup) (sides : BothSides) (left : PlainExchange LinkState LinkState) (kept : List ℕ)
+    (s : StandsEnded setup sides left kept) (most : ℕ) (some : 1 ≤ most)
     (takes : TakesUpTo most left.parts.client) where
   -- the client took as many bytes as it takes where it failed, and else what waits for it is known
   got_head : (head more : List ℕ) → s.client.look.taken ++ s.client.outbox ≡ head ++ more
@@ -110,47 +127,52 @@ module _ (setup : Setup) (sides : BothSides) (left : PlainExchange LinkState Lin
       → IsBlock setup true (Refused setup sides) (all_of s.origin.look) (all_of s.client.look) b
       → TookExactly (Refused setup sides) b.request s.origin
       → s.client.look.taken ++ s.client.outbox ≡ b.head ++ more → s.sent.head ≡ length b.head
-      → (s.client.outbox ≡ []) ⊎ HasFailed s.client → HasHeadsAt setup sides left link most
+      → (s.client.outbox ≡ []) ⊎ HasFailed s.client → HasHeadsAt setup sides left kept most
   of_block end is reported b more says took text long waits =
-      let (at, stands, taken) = block_taken setup sides left link s b says took in
+      let a = block_taken setup sides left kept s b says took in
       record {
         shown = s.shown;
         strips = s.strips;
         request = b.request;
         head = b.head;
-        sends = heads.decided b (same_block setup sides left link s b says) refl refl;
-        at = at;
-        stands = stands;
-        leaves = record { taken = taken; got = got_head b.head more text long waits };
+        at = a.at;
+        stands = a.stands;
+        sends = heads.decided b (same_block setup sides left kept s b says a) refl refl;
+        leaves = record { taken = a.taken; got = got_head b.head more text long waits };
         may = may_so end is reported;
       }
 
   -- an own answer that was queued, whose client failed
   of_own : s.end ≡ E.ClientFault → HasFailed s.client → (a : OwnAnswer)
       → HasOwnCause setup (Refused setup sides) (viewed s.client s.origin s.sent) a
-      → HasOwnText setup s.client s.sent a → HasHeadsAt setup sides left link most
+      → HasOwnText setup s.client s.sent a → HasHeadsAt setup sides left kept most
   of_own is failed a (decided request says whole took) text =
       of_block E.ClientFault is tt (own_block setup request a.status a.to_head) (own_sent a.to_head a.status)
       says took text.text text.head (inr failed)
   of_own is failed a (fault q goes status to_head end rose lacks) text = absurd (s.never rose)
 
-  -- the heads of a response that was passed on are those of all bytes of both sides
+  -- the heads of a response that was passed on are those of all bytes of the client and what answered
   sent_on : (done fin : Bool) (body : List ℕ)
       → (r : Relayed setup (Refused setup sides) (viewed s.client s.origin s.sent) done fin body)
-      → SendsHeads setup (Refused setup sides) s.shown sides.origin
+      → IsOneSent (request_text setup r.q.head r.q.target r.q.host)
+      → (a : Arrived setup sides left kept s (request_text setup r.q.head r.q.target r.q.host))
+      → SendsHeads setup (Refused setup sides) s.shown
+      (answer_to setup.intercepts.items a.at.request sides.origin)
       (request_text setup r.q.head r.q.target r.q.host) (relayed_head setup r.q.head r.h)
-  sent_on done fin body r =
+  sent_on done fin body r one a =
       let goes : Goes setup s.shown r.q true = subst (λ c. Goes setup c r.q true) s.gives r.served.goes in
       let rest = (r.fed ++ s.origin.inbox) ++ s.origin.look.left in
-      let final : FinalHead sides.origin r.h rest =
-      subst (λ o. FinalHead o r.h rest) s.answers
+      let answers = answer_there setup sides left kept s
+      (request_text setup r.q.head r.q.target r.q.host) one a in
+      let final : FinalHead (answer_to setup.intercepts.items a.at.request sides.origin) r.h rest =
+      subst (λ o. FinalHead o r.h rest) answers
       (final_more s.origin.look.given r.h (r.fed ++ s.origin.inbox) s.origin.look.left r.reads) in
       heads.passed_on r.q r.h rest goes r.served.accepts final r.good refl refl
 
   -- a response that was passed on, whose client failed
   of_relayed : s.end ≡ E.ClientFault → HasFailed s.client → (done fin : Bool) (body : List ℕ)
       → Relayed setup (Refused setup sides) (viewed s.client s.origin s.sent) done fin body
-      → HasHeadsAt setup sides left link most
+      → HasHeadsAt setup sides left kept most
   of_relayed is failed done fin body r =
       let q = r.q in
       let request = request_text setup q.head q.target q.host in
@@ -159,17 +181,17 @@ module _ (setup : Setup) (sides : BothSides) (left : PlainExchange LinkState Lin
       (was_read (all_of s.client.look) q.head knows.rest knows.reads) knows.passes in
       let took = took_request setup (Refused setup sides) q s.origin r.served.carries r.served.no_waits
       (inl r.served.uploaded) in
-      let (at, stands, taken) = s.arrived request (inr one) took in
+      let a = s.arrived request (inr one) took in
       record {
         shown = s.shown;
         strips = s.strips;
         request = request;
         head = relayed_head setup q.head r.h;
-        sends = sent_on done fin body r;
-        at = at;
-        stands = stands;
+        at = a.at;
+        stands = a.stands;
+        sends = sent_on done fin body r one a;
         leaves = record {
-          taken = taken;
+          taken = a.taken;
           got = got_head (relayed_head setup q.head r.h) (frames s.sent.mode r.text.pieces fin) r.text.text
               r.text.head_is (inr failed);
         };
@@ -179,7 +201,7 @@ module _ (setup : Setup) (sides : BothSides) (left : PlainExchange LinkState Lin
   -- whatever it had queued
   of_text : s.end ≡ E.ClientFault → HasFailed s.client
       → SomeText setup (Refused setup sides) (viewed s.client s.origin s.sent)
-      → HasHeadsAt setup sides left link most
+      → HasHeadsAt setup sides left kept most
   of_text is failed (quiet none) =
       let same : left.parts.client.taken ≡ [] = sym s.took ∙ none.no_taken in
       let all = takes.all (s.failed failed) in
@@ -190,7 +212,7 @@ module _ (setup : Setup) (sides : BothSides) (left : PlainExchange LinkState Lin
 
   by_end : (end : TxnEnd) → s.end ≡ end → end ≢ E.NoMemory
       → EndFact setup (Refused setup sides) (viewed s.client s.origin s.sent) end
-      → HasHeadsAt setup sides left link most
+      → HasHeadsAt setup sides left kept most
   by_end E.Whole is other fact =
       let w = fact.by in
       of_block E.Whole is tt w.block (frames s.sent.mode w.text.pieces true) w.has.is_block w.has.took
@@ -209,7 +231,7 @@ module _ (setup : Setup) (sides : BothSides) (left : PlainExchange LinkState Lin
 
   -- by the end that it left
   pub heads_at : (end : TxnEnd) → left.parts.end ≡ Some end → end ≢ E.NoMemory
-      → HasHeadsAt setup sides left link most
+      → HasHeadsAt setup sides left kept most
   heads_at end is other =
       let same : s.end ≡ end = same_Some s.end end (sym s.end_is ∙ is) in
       by_end s.end refl (λ lacks. other (sym same ∙ lacks)) s.fact
@@ -218,10 +240,10 @@ module _ (setup : Setup) (sides : BothSides) (left : PlainExchange LinkState Lin
 
 -- the transaction that left this is one whose client leaves, and these are its heads
 pub record HasLeft (setup : Setup) (sides : BothSides) (left : PlainExchange LinkState LinkState)
-    (link : LinkState) : Type 0 where
+    (kept : List ℕ) : Type 0 where
   pub most : ℕ
   pub leaves : sides.leave ≡ Some most
-  pub heads : HasHeadsAt setup sides left link most
+  pub heads : HasHeadsAt setup sides left kept most
 
 -- a side of which it is told how much it still takes leaves
 some_leave : (may_take : Option ℕ) (taken : ℕ) (leave : Option ℕ) → is_some may_take ≡ true
@@ -235,22 +257,22 @@ no_leave : (may_take : Option ℕ) (taken : ℕ) (leave : Option ℕ) → is_som
 no_leave None taken leave told is = sym is
 no_leave (Some m) taken leave told is = absurd (cc)
 
-module _ (setup : Setup) (sides : BothSides) (left : PlainExchange LinkState LinkState) (link : LinkState)
-    (s : StandsEnded setup sides left link) where
+module _ (setup : Setup) (sides : BothSides) (left : PlainExchange LinkState LinkState) (kept : List ℕ)
+    (s : StandsEnded setup sides left kept) where
   pub stays_none : is_some left.parts.client.may_take ≡ false → sides.leave ≡ None
   stays_none told =
       no_leave left.parts.client.may_take (length left.parts.client.taken) sides.leave told s.leaves
 
   pub left_at : GoesAsRecorded left.parts.client → is_some left.parts.client.may_take ≡ true
       → TakesSome sides.leave → (end : TxnEnd) → left.parts.end ≡ Some end → end ≢ E.NoMemory
-      → HasLeft setup sides left link
+      → HasLeft setup sides left kept
   left_at goes told some end is other =
       let (most, leaves) = some_leave left.parts.client.may_take (length left.parts.client.taken) sides.leave
       told s.leaves in
       record {
         most = most;
         leaves = leaves;
-        heads = heads_at setup sides left link s most (subst TakesSome leaves some)
+        heads = heads_at setup sides left kept s most (subst TakesSome leaves some)
             (takes_up_to most left.parts.client goes (s.leaves ∙ leaves)) end is other;
       }
 
@@ -258,7 +280,7 @@ module _ (setup : Setup) (sides : BothSides) (left : PlainExchange LinkState Lin
 
 -- what was cut out of what is left is what is shown
 module _ {X : Type 0} (setup : Setup) (sides : BothSides) (left : PlainExchange LinkState LinkState)
-    (link : LinkState) (l : HasLeft setup sides left link) where
+    (kept : List ℕ) (l : HasLeft setup sides left kept) where
   pub shows_left : (r : Result ReportBlock X) → IfOk r (λ b. b ≡ left_report l.most l.heads.at l.heads.head)
       → IfOk r (IsShownOf setup sides)
   shows_left (Ok b) is =
@@ -268,9 +290,9 @@ module _ {X : Type 0} (setup : Setup) (sides : BothSides) (left : PlainExchange 
         strips = l.heads.strips;
         request = l.heads.request;
         head = l.heads.head;
-        sends = l.heads.sends;
         at = l.heads.at;
         stands = l.heads.stands;
+        sends = l.heads.sends;
         shows = is;
       })
   shows_left (Err e) is = tt

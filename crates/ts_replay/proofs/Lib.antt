@@ -1,3 +1,4 @@
+pub mod Answering
 pub mod Arriving
 pub mod Askers
 pub mod Blank
@@ -14,5 +15,6 @@ pub mod SameLines
 pub mod SentHead
 pub mod Standing
 pub mod Taking
+pub mod Tapping
 pub mod Telling
 pub mod Unframing

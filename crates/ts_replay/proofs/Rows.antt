@@ -1,17 +1,17 @@
 -- Rows of groups of recorded transactions and hook plugins grow.
-use Rattle.std.proofs.Common.{◌≡◌, ℕ, ◌+◌, ◌≤◌, List, [], ◌∷◌, ◌++◌, length, length-append, map, false}
+use Rattle.std.proofs.Common.{◌≡◌, ℕ, ◌+◌, ◌≤◌, List, [], ◌∷◌, ◌++◌, length, length-append, map, false, true}
 use Rattle.std.proofs.Common.{append_assoc, append-nil, Option, None, Some, refl, sym, ap, subst, ◌∙◌, arith}
 use Rattle.std.specs.Prelude.{Err, IfOk, Ok, Result}
 use Rattle.std.specs.List.{AllZip}
+use Rattle.std.proofs.lemmas.Bool.{false≢true}
 use Rattle.std.proofs.lemmas.Slice.Zip.{all_zipped_more}
 use Rattle.std.proofs.lemmas.List.Elements.{All-append, All-push}
 use Rattle.std.proofs.lemmas.Option.{same_Some}
 use Rattle.ts_config.specs.declared.fields.PluginLine.{PluginLine}
 use Rattle.ts_config.specs.declared.setup.Setup.{Setup}
-use Rattle.ts_exchange.specs.Ends.{AreNewEnds}
 use Rattle.ts_exchange.specs.Rows.{IsTagOfLine, StandBehind}
 use Rattle.ts_group.specs.declared.either.EitherTag.TheVariants as kind
-use Rattle.ts_layers.specs.Layers.{AreSureLayers, IsLayeredTag}
+use Rattle.ts_layers.specs.Layers.{AreSureLayers, IsLayeredTag, MayBeLayered}
 use Rattle.ts_link.specs.Link.{IsSure, NeverLeaves}
 use Rattle.ts_link.specs.MemLink.{LinkState, look_of}
 use Rattle.ts_link.specs.declared.piece.Piece.{Piece}
@@ -59,24 +59,27 @@ sure_sides client origin leave = record {
 
 -- two sides that were just made were not used, and belong together
 pub new_sides : (client origin : LinkState) (bytes answer : List ℕ) → IsNewSide bytes client
-    → IsNewSide answer origin → AreNewEnds memory_link memory_link recorded_origin client (Some origin)
+    → IsNewSide answer origin → MayBeLayered memory_link memory_link recorded_origin client (Some origin)
 new_sides client origin bytes answer of_client of_origin = record {
-  unused = λ tells. record {
-    no_given = of_client.no_given;
-    no_taken = of_client.no_taken;
-    no_carried = refl;
+  new = record {
+    unused = λ tells. record {
+      no_given = of_client.no_given;
+      no_taken = of_client.no_taken;
+      no_carried = refl;
+    };
+    unused_origin = λ tells. record {
+      no_given = of_origin.no_given;
+      no_taken = of_origin.no_taken;
+      no_carried = refl;
+    };
+    paired = tt;
   };
-  unused_origin = λ tells. record {
-    no_given = of_origin.no_given;
-    no_taken = of_origin.no_taken;
-    no_carried = refl;
-  };
-  paired = tt;
+  takes = λ list wrong. false≢true wrong;
 }
 
 -- the tag between recorded ends is that of a transaction
 pub tag_of_txn : (setup : Setup) (at number : ℕ) (txn : TxnPieces) (tag : RecordedTag)
-    → IsLayeredTag (recorded_ends setup at number txn) recorded_promise false tag → TakesSome txn.leave
+    → IsLayeredTag (recorded_ends setup at number txn) true recorded_promise false tag → TakesSome txn.leave
     → IsNewTagOf setup at (Transaction number txn) (kind.One tag)
 tag_of_txn setup at number txn tag between some = record { between = between; takes_some = some }
 

@@ -60,7 +60,7 @@ sent_ends text (method, target, host, sends) = request_ends method target host t
 -- ---- the length of an upload can be sent
 
 -- a length that was read is within the limit
-valid_small : (ms : List (List ℕ)) (n : ℕ) → content_length ms ≡ L.Valid n → n ≤ body_limit
+pub valid_small : (ms : List (List ℕ)) (n : ℕ) → content_length ms ≡ L.Valid n → n ≤ body_limit
 valid_small [] n is = absurd (let wrong : L.Absent ≡ L.Valid n = is in cc)
 valid_small (m ∷ ms) n is = by_test (is_length m && list_all (is_length_of (digits_value 10 m)) ms) refl is
   where

@@ -1,10 +1,13 @@
 -- What stands at the origin once a transaction has ended, by all bytes of its client: the head of the
 -- request, and of an upload the line in it that says how its body is framed, and the body, as the request
--- lines make it (RFC 9112, sections 6 and 7.1; Developer's Guide, "Transformations").
-use Rattle.std.specs.Prelude.{◌≡◌, ◌≢◌, ◌++◌, List, [], ℕ, None, Some, true}
+-- lines make it (RFC 9112, sections 6 and 7.1; Developer's Guide, "Transformations"); and what answers it
+-- there (Developer's Guide, "Intercepting HTTP Transactions").
+use Rattle.std.specs.Prelude.{◌≡◌, ◌≢◌, ◌++◌, List, [], ℕ, None, Option, Some, true}
 use Rattle.httparse.specs.Grammar as grammar
 use Rattle.ts_config.specs.Bodies.{compose_lines, is_early}
+use Rattle.ts_config.specs.declared.setup.InterceptLine.{InterceptLine}
 use Rattle.ts_config.specs.declared.setup.TransformLine.{TransformLine}
+use Rattle.ts_intercept.specs.Served.{line_for, served}
 use Rattle.ts_replay.specs.declared.at_origin.AtOrigin.{AtOrigin}
 use Rattle.ts_request.specs.Sent.{RefusesUpload, sent_head}
 use Rattle.ts_request.specs.Upload.{HasUpload, LacksUpload}
@@ -46,3 +49,15 @@ abbrev pub HasOneAtOrigin : Type 0
 HasOneAtOrigin =
     (lines : List TransformLine) (client head : List ℕ) (a b : AtOrigin) → StandsAt lines client head a
     → StandsAt lines client head b → a ≡ b
+
+-- ---- what answers it
+
+-- what a line serves to a head, or where there is none all that the origin gives
+abbrev pub answer_by : Option InterceptLine → List ℕ → List ℕ → List ℕ
+answer_by None head origin = origin
+answer_by (Some line) head origin = served line.kind head
+
+-- THE ANSWER to the head that stands at the origin: what the first of these lines for its host serves, and
+-- for every other host all that the origin gives. Where no head stands there, it is asked for nothing.
+abbrev pub answer_to : List InterceptLine → List ℕ → List ℕ → List ℕ
+answer_to lines head origin = answer_by (line_for lines head) head origin

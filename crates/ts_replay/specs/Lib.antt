@@ -6,4 +6,6 @@ pub mod Recorded
 pub mod Replayed
 pub mod Reports
 pub mod Rows
+pub mod Running
+pub mod Taps
 pub mod Unframing

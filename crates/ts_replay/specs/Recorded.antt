@@ -13,17 +13,19 @@ use Rattle.ts_group.specs.declared.action.Named.{Named}
 use Rattle.ts_group.specs.declared.either.EitherTag.TheVariants as kind
 use Rattle.ts_journal.specs.State.{State}
 use Rattle.ts_journal.specs.declared.entry.Pending.{Pending}
-use Rattle.ts_layers.specs.Layers.{IsLayeredTag, carrier_link, carrier_origin, front_link}
+use Rattle.ts_layers.specs.Layers.{IsLayeredTag}
+use Rattle.ts_layers.specs.Links.{Carried, ClientEnd, OriginEnd, carried_link, carried_origin, client_link}
+use Rattle.ts_layers.specs.Links.{origin_link, origin_uploads, watched_link}
+use Rattle.ts_link.specs.Link.{Look}
 use Rattle.ts_link.specs.MemLink.{LinkState}
 use Rattle.ts_link.specs.declared.link.Link as link
 use Rattle.ts_plugin.specs.Lines.{AreOrdered}
 use Rattle.ts_record.specs.Grammar.{TxnPieces}
 use Rattle.ts_record.specs.Links.{recorded_side}
 use Rattle.ts_replay.specs.Members.{HookPlugin, Member, Transaction}
-use Rattle.ts_request.specs.Front.{FrontSeen}
-use Rattle.ts_request.specs.declared.carrier.Carrier.{Carrier}
 use Rattle.ts_stock.specs.StockTransform.{stock_transform}
 use Rattle.ts_stock.specs.declared.stock.State.{State as StockState}
+use Rattle.ts_tap.specs.declared.watched.Watched.{Watched}
 use Rattle.ts_txn.specs.World.{HasTxnBegun, IsSoundTxn, IsTxnOf}
 use Rattle.ts_txn.specs.declared.txn.Txn.{Txn}
 use Rattle.ts_txn.specs.declared.txn.TxnTag.{TxnTag}
@@ -31,12 +33,12 @@ use Rattle.ts_upstream.specs.InMemory.{memory_link}
 use Rattle.ts_upstream.specs.Uploads.{MovesNothing}
 use Rattle.ts_upstream.specs.declared.upstream.Upstream as upstream
 
--- the client of a recorded transaction and its origin, each a recorded side with its layer over it
+-- the client of a recorded transaction and its origin, each a recorded side with its layers over it
 abbrev pub RecordedFront : Type 0
-RecordedFront = FrontSeen LinkState
+RecordedFront = ClientEnd LinkState
 
 abbrev pub RecordedCarrier : Type 0
-RecordedCarrier = Carrier LinkState StockState
+RecordedCarrier = OriginEnd LinkState StockState
 
 -- a transaction between two recorded sides with their layers, both of whose bodies go through stock
 -- transforms, and the tag of its slot
@@ -89,11 +91,11 @@ recorded_ends setup at number txn = record {
 abbrev pub recorded_promise : Promise
 recorded_promise = record { is_sure = true; is_first = true }
 
--- The tag is that of this transaction, which was started or not, and whose client takes at least one byte
--- before it leaves, if it does.
+-- The tag is that of this transaction, which was started or not, whose origin's end keeps what is taken in
+-- the origin's place, and whose client takes at least one byte before it leaves, if it does.
 pub record IsTagOf (setup : Setup) (at number : ℕ) (txn : TxnPieces) (started : Bool)
     (tag : RecordedTag) : Type 0 where
-  pub between : IsLayeredTag (recorded_ends setup at number txn) recorded_promise started tag
+  pub between : IsLayeredTag (recorded_ends setup at number txn) true recorded_promise started tag
   pub takes_some : TakesSome txn.leave
 
 -- the tag is that of a member of the row, of a transaction that was not started
@@ -114,15 +116,31 @@ recorded_origin = record {
   upload_left = λ c o. Some 0;
 }
 
+-- what the front of a recorded transaction is over, and its carrier, and the uploads between these two
+abbrev pub recorded_client : link.Ghosts (Watched LinkState)
+recorded_client = watched_link memory_link
+
+abbrev pub seen_client : Watched LinkState → Look
+seen_client = recorded_client.look
+
+abbrev pub recorded_link : link.Ghosts (Carried LinkState)
+recorded_link = carried_link memory_link
+
+abbrev pub seen_carried : Carried LinkState → Look
+seen_carried = recorded_link.look
+
+abbrev pub recorded_uploads : upstream.Ghosts (Carried LinkState) (Watched LinkState)
+recorded_uploads = carried_origin memory_link recorded_origin
+
 -- the two links of a recorded transaction with their layers, and the uploads between them
 abbrev pub layered_client : link.Ghosts RecordedFront
-layered_client = front_link memory_link
+layered_client = client_link memory_link
 
 abbrev pub layered_link : link.Ghosts RecordedCarrier
-layered_link = carrier_link memory_link
+layered_link = origin_link memory_link
 
 abbrev pub layered_origin : upstream.Ghosts RecordedCarrier RecordedFront
-layered_origin = carrier_origin memory_link memory_link recorded_origin stock_transform
+layered_origin = origin_uploads memory_link memory_link recorded_origin stock_transform
 
 -- the transaction is the one that the tag names
 abbrev pub IsOfTag : RecordedTag → Recorded → Type 0

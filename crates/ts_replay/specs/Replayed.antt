@@ -13,10 +13,10 @@ use Rattle.ts_plugin.specs.World.{OnlyAnswers}
 use Rattle.ts_plugin.specs.declared.plugin.Plugin.{Plugin}
 use Rattle.ts_record.specs.Grammar.{TxnPieces}
 use Rattle.ts_record.specs.Report.{AreReported}
-use Rattle.ts_replay.specs.Exchanged.{MayEnd}
+use Rattle.ts_replay.specs.Exchanged.{ChoseWell, MayEnd}
 use Rattle.ts_replay.specs.Members.{HookPlugin, Member, Transaction, members}
 use Rattle.ts_replay.specs.Recorded.{HasPlainLines, IsOfTag, IsSoundRecorded, IsTagOf, Recorded, RecordedTag}
-use Rattle.ts_replay.specs.Recorded.{RowGroup}
+use Rattle.ts_replay.specs.Recorded.{RowGroup, recorded_ends}
 use Rattle.ts_replay.specs.Reports.{AreShown}
 use Rattle.ts_replay.specs.declared.outcomes.Replayed.{Replayed}
 use Rattle.ts_txn.specs.Making.{end_of_course}
@@ -60,10 +60,12 @@ abbrev pub AreDone : Setup → List TxnPieces → List RowGroup → Type 0
 AreDone setup txns groups =
     AllZip (IsDoneAs setup (length txns)) (members setup.plugins.items txns) groups
 
--- and a transaction has ended, so that its block tells how, or that its client left
+-- and a transaction has ended, so that its block tells how, or that its client left; and where a line served
+-- its request, the recorded origin was not used
 pub record HasEndedAs (setup : Setup) (at number : ℕ) (pieces : TxnPieces) (group : RowGroup) : Type 0 where
   pub ran : HasRunAs setup at number pieces group
   pub ended : IsSomeAnd (end_of_course ran.txn.course) (MayEnd pieces.leave)
+  pub chose : ChoseWell setup (recorded_ends setup at number pieces).origin ran.txn
 
 abbrev pub IsReplayOf : Setup → ℕ → Member → RowGroup → Type 0
 IsReplayOf setup at (Transaction number pieces) group = HasEndedAs setup at number pieces group

@@ -10,8 +10,9 @@ use Rattle.ts_record.specs.Report.{report_text}
 use Rattle.ts_record.specs.declared.report.ReportBlock.{ReportBlock}
 use Rattle.ts_block.specs.Block.{IsBlock}
 use Rattle.ts_block.specs.declared.block.Block.{Block}
-use Rattle.ts_replay.specs.AtOrigin.{StandsAt}
+use Rattle.ts_replay.specs.AtOrigin.{StandsAt, answer_to}
 use Rattle.ts_replay.specs.Heads.{SendsHeads}
+use Rattle.ts_replay.specs.Taps.{tap_by}
 use Rattle.ts_replay.specs.declared.at_origin.AtOrigin.{AtOrigin}
 use Rattle.ts_request.specs.Sent.{RefusesUpload}
 use Rattle.ts_request.specs.Upload.{Strips}
@@ -30,19 +31,19 @@ sides_of txn =
 
 -- ---- one transaction
 
--- a block, and what stands at the origin, as a report shows them
-abbrev pub in_report : AtOrigin → Block → ReportBlock
-in_report at b = record {
+-- a block, what stands at the origin, and what a tap counted, as a report shows them
+abbrev pub in_report : Option ℕ → AtOrigin → Block → ReportBlock
+in_report most at b = record {
   request = at.request;
   upload = at.upload;
   end = b.end;
   head = b.head;
   content = b.body;
-  tap = None;
+  tap = tap_by b.end most b.body;
 }
 
 -- what a report shows where the client left after so many bytes: what stands at the origin, and what the
--- client got of the head
+-- client got of the head; there are no lines for a body, and so none of a tap
 abbrev pub left_report : ℕ → AtOrigin → List ℕ → ReportBlock
 left_report most at head = record {
   request = at.request;
@@ -53,16 +54,17 @@ left_report most at head = record {
   tap = None;
 }
 
--- What is shown of a transaction whose client stays: the block of all that is shown of the client and all
--- that the origin gives, each followed by its end, and what stands at the origin.
+-- What is shown of a transaction whose client stays: what stands at the origin, and the block of all that is
+-- shown of the client and all of what answers there, each followed by its end.
 pub record IsShownWhole (setup : Setup) (client origin : List ℕ) (b : ReportBlock) : Type 0 where
   pub shown : List ℕ
   pub strips : Strips client shown
   pub block : Block
-  pub is_block : IsBlock setup true (RefusesUpload setup.requests.items client) origin shown block
   pub at : AtOrigin
   pub stands : StandsAt setup.requests.items client block.request at
-  pub shows : b ≡ in_report at block
+  pub is_block : IsBlock setup true (RefusesUpload setup.requests.items client)
+      (answer_to setup.intercepts.items at.request origin) shown block
+  pub shows : b ≡ in_report setup.tap at block
 
 -- What is shown of one whose client leaves after so many bytes, whatever its end: what stands at the origin,
 -- and the first so many bytes of that block's head.
@@ -71,9 +73,10 @@ pub record IsShownLeft (setup : Setup) (client origin : List ℕ) (most : ℕ) (
   pub strips : Strips client shown
   pub request : List ℕ
   pub head : List ℕ
-  pub sends : SendsHeads setup (RefusesUpload setup.requests.items client) shown origin request head
   pub at : AtOrigin
   pub stands : StandsAt setup.requests.items client request at
+  pub sends : SendsHeads setup (RefusesUpload setup.requests.items client) shown
+      (answer_to setup.intercepts.items at.request origin) request head
   pub shows : b ≡ left_report most at head
 
 abbrev pub IsShownBy : Option ℕ → Setup → List ℕ → List ℕ → ReportBlock → Type 0

@@ -34,6 +34,9 @@ const PROMISE: Promise = Promise {
     is_first: true,
 };
 
+// What is taken in the place of its origin is kept: a report shows it, also where a line answered.
+const KEEPS: bool = true;
+
 // The group of a transaction of this number, and its tag.
 fn make_txn(
     alloc: Global,
@@ -56,7 +59,7 @@ fn make_txn(
     } = txn;
     let client = RecordedLink::make(alloc, client, leave);
     let origin = Some(RecordedLink::make(alloc, origin, None));
-    let (group, tag) = make_layered_group(alloc, setting, number, PROMISE, client, origin)?;
+    let (group, tag) = make_layered_group(alloc, setting, number, PROMISE, KEEPS, client, origin)?;
     Ok((group, EitherTag::One(tag)))
 }
 

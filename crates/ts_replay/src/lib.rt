@@ -1,6 +1,7 @@
 //! The room in which a recording is run: each of its transactions is a mutex group that event threads run and
 //! that is then driven to its end, and comes to a block, of which a report is made. The body of its request
-//! goes through the request lines to its origin, and the report shows it as it stands there.
+//! goes through the request lines to its origin, or to the line that answers in its place, and the report
+//! shows it as it stands there. Where there is a tap, the report shows what it counted of each body.
 //!
 //! # The way of a replay
 //!
@@ -9,8 +10,8 @@
 //! ```text
 //! CONFIG, its files, RECORDING ── read ──► lines, transactions
 //!                                              │ make_row: each transaction is a world between two recorded links with their
-//!                                              │           layers (a front of the client, a carrier to the origin), in a group of
-//!                                              │           its own, with a tag: number, setup, the links as they were made
+//!                                              │           layers, of which one keeps what is taken in the origin's place, in a
+//!                                              │           group of its own, with a tag: number, setup, the links as they were made
 //!                                              ▼
 //!  slots     ┌────────────────┬────────────────┬────────────────┬─ .. ─┐
 //!            │ word │ group 0 │ word │ group 1 │ word │ group 2 │      │      a word and a place for each group
@@ -30,8 +31,9 @@
 //!                                              │ all threads have ended: seats and passes are joined, the slots are closed, and
 //!                                              │ `finish` handles what is still pending, group by group, on one thread
 //!                                              ▼
-//!                  of each group in order: the layers are taken off, and what the links took is
-//!                  read: its block, and what stands at its origin; and its journal ──► out: the report
+//!                  of each group in order: the layers are taken off, and what the client took and
+//!                  what was taken in the origin's place is read: its block, and what stands at its
+//!                  origin; and its journal ──► out: the report
 //! ```
 //!
 //! `tsx generate SEED COUNT SIZE` goes the same way on four threads, from the transactions on: they are made

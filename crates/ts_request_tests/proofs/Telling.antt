@@ -1,49 +1,45 @@
--- A transaction with layers between links in memory tells its number.
-use Rattle.std.proofs.Common.{ℕ, Option, Some, None, true, refl}
+-- A transaction with layers tells its number, alone and in a row, where its links tell theirs; and links in
+-- memory do.
+use Rattle.std.proofs.Common.{ℕ, Option, Some, length, refl}
 use Rattle.std.specs.Prelude.{IsSome}
+use Rattle.ts_config.specs.declared.setup.TransformLine.{TransformLine}
+use Rattle.ts_group.specs.Either.{either_left}
+use Rattle.ts_group.specs.declared.either.Either.{Either}
+use Rattle.ts_group.specs.declared.either.Either.TheVariants as world
 use Rattle.ts_journal.specs.State.{State}
-use Rattle.ts_link.specs.MemLink.{LinkState, look_of}
-use Rattle.ts_phases.specs.View.{side_if, upload_told}
-use Rattle.ts_phases.specs.declared.parts.Peer.{Peer}
-use Rattle.ts_request.specs.Carrying.{carrier_look}
-use Rattle.ts_request.specs.Front.{FrontSeen, front_look}
-use Rattle.ts_request.specs.Pairing.{carrier_left}
-use Rattle.ts_request.specs.declared.carrier.Carrier.{Carrier}
-use Rattle.ts_stock.specs.StockTransform.{stock_transform}
-use Rattle.ts_stock.specs.declared.stock.State.{State as StockState}
+use Rattle.ts_layers.specs.Links.{ClientEnd, OriginEnd, client_link, origin_link, origin_uploads}
+use Rattle.ts_layers.proofs.Telling.{layers_tell}
+use Rattle.ts_link.specs.declared.link.Link as link
+use Rattle.ts_request_tests.specs.Telling.{LinksTell}
+use Rattle.ts_transform.specs.declared.transform.Transform as transform
 use Rattle.ts_txn.specs.LoweringCourse.{transaction_left}
 use Rattle.ts_txn.specs.declared.txn.Txn.{Txn}
-use Rattle.ts_txn.proofs.Telling.{tells}
 use Rattle.ts_upstream.specs.InMemory.{memory_link, memory_origin}
-use Rattle.ts_upstream.specs.Uploads.{both}
-use Rattle.ts_layers.specs.Layers.{carrier_link, carrier_origin, front_link}
+use Rattle.ts_upstream.specs.declared.upstream.Upstream as upstream
 
--- the two ends of a transaction with layers between links in memory
-abbrev pub MemFront : Type 0
-MemFront = FrontSeen LinkState
+module _ {C O P : Type 0} (client : link.Ghosts C) (origin : link.Ghosts O) (both : upstream.Ghosts O C)
+    (stage : transform.Ghosts P TransformLine) (tell : LinksTell client origin both) where
+  abbrev pub alone_left : Txn (ClientEnd C) (OriginEnd O P) P → State → Option ℕ
+  alone_left t s =
+      transaction_left (client_link client) (origin_link origin) (origin_uploads client origin both stage)
+      stage t.core t.course s.pending
 
-abbrev pub MemCarrier : Type 0
-MemCarrier = Carrier LinkState StockState
+  pub alone_tells : (t : Txn (ClientEnd C) (OriginEnd O P) P) (s : State) → IsSome (alone_left t s)
+  alone_tells t s =
+      layers_tell client origin both stage tell.client_tells tell.origin_tells tell.client_agains
+      tell.origin_agains tell.uploads t.core t.course s.pending
 
-told_agains : (f : MemFront) (o : Option (Peer MemCarrier))
-    → IsSome (both (front_look look_of f).agains (side_if (carrier_look true look_of) o).look.agains)
-told_agains f None = refl
-told_agains f (Some p) = refl
+  -- a world of the other kind tells how many events are pending
+  pub row_tells : {B : Type 0} (w : Either (Txn (ClientEnd C) (OriginEnd O P) P) B) (s : State)
+      → IsSome (either_left alone_left (λ (b : B) (s : State). Some (length s.pending)) w s)
+  row_tells (world.One t) s = alone_tells t s
+  row_tells (world.Other b) s = refl
 
-told_uploads : (f : MemFront) (o : Option (Peer MemCarrier))
-    → IsSome (upload_told (carrier_left memory_link memory_link memory_origin stock_transform) f o)
-told_uploads f None = refl
-told_uploads f (Some p) = refl
-
-abbrev pub left_alone : Txn MemFront MemCarrier StockState → State → Option ℕ
-left_alone t s =
-    transaction_left (front_link memory_link) (carrier_link memory_link)
-    (carrier_origin memory_link memory_link memory_origin stock_transform) stock_transform t.core t.course
-    s.pending
-
-pub alone_tells : (t : Txn MemFront MemCarrier StockState) (s : State) → IsSome (left_alone t s)
-alone_tells t s =
-    tells (front_link memory_link) (carrier_link memory_link)
-    (carrier_origin memory_link memory_link memory_origin stock_transform) stock_transform t.core t.course
-    s.pending refl refl (told_agains t.core.client.link t.core.origin)
-    (told_uploads t.core.client.link t.core.origin)
+pub memory_tells : LinksTell memory_link memory_link memory_origin
+memory_tells = record {
+  client_tells = refl;
+  origin_tells = refl;
+  client_agains = λ c. refl;
+  origin_agains = λ o. refl;
+  uploads = λ c o. refl;
+}

@@ -2,10 +2,11 @@
 ghost use Rattle.std.specs.Prelude.{◌≡◌, []};
 ghost use Rattle.ts_link.specs.MemLink.{look_of};
 
+use crate::carrying::giving;
 use crate::rows::{MEMORY, unescaped};
 use std::process::Abort;
 use ts_link::{Got, Link, MemLink, Octets, Put, Sourced};
-use ts_request::{Front, Stage, one_shown, one_upload};
+use ts_request::{Front, Stage, limits, one_shown, one_upload};
 use ts_upstream::Uploaded;
 use ts_wire::Framing;
 
@@ -139,6 +140,68 @@ fn a_front_shows_a_head_and_hands_over_its_body(rt: HostRuntime) {
     }
 }
 
+// Holds that a request with an upload is shown and handed over so behind this many empty lines.
+fn check_behind_empty_lines(rt: &(impl AllocGlobal + Abort), lines: usize) {
+    let mut given = Vec::new(rt.alloc());
+    'lines: for _ in 0..lines {
+        given.extend_from_slice(b"\r\n").expect(rt, MEMORY);
+    }
+    let mut wanted = Vec::new(rt.alloc());
+    wanted
+        .extend_from_slice(given.as_slice())
+        .expect(rt, MEMORY);
+    wanted
+        .extend_from_slice(b"PUT / HTTP/1.1\r\nHost: a\r\n\r\n")
+        .expect(rt, MEMORY);
+    given
+        .extend_from_slice(b"PUT / HTTP/1.1\r\nContent-Length: 2\r\nHost: a\r\n\r\nhi")
+        .expect(rt, MEMORY);
+    for piece in [1u32, 5, 1000] {
+        check_front(rt, given.as_slice(), wanted.as_slice(), b"hi", piece);
+    }
+}
+
+#[test]
+fn a_front_shows_a_head_behind_an_empty_line(rt: HostRuntime) {
+    check_behind_empty_lines(&rt, 1);
+}
+
+#[test]
+fn a_front_shows_a_head_behind_two_empty_lines(rt: HostRuntime) {
+    check_behind_empty_lines(&rt, 2);
+}
+
+#[test]
+fn a_front_shows_a_head_behind_many_empty_lines(rt: HostRuntime) {
+    check_behind_empty_lines(&rt, 500);
+}
+
+// Holds that the first read of a front gives a whole head without a body, of 27 bytes, and that nothing behind
+// it was waited for. It comes in pieces of so many bytes, with which the head ends.
+fn check_at_once(rt: &(impl AllocGlobal + Abort), piece: u32) {
+    let request = b"GET / HTTP/1.1\r\nHost: a\r\n\r\n";
+    let mut given = Vec::new(rt.alloc());
+    given.extend_from_slice(request).expect(rt, MEMORY);
+    given.extend_from_slice(b"GET").expect(rt, MEMORY);
+    let client = giving(rt, given.as_slice(), piece, 1);
+    let mut front = Front::make(rt.alloc(), client).expect(rt, MEMORY);
+    let mut room = [0u8; 64];
+    assert!(rt;
+        front.read(&mut room) == Got::Bytes(request.len()),
+        "in pieces of {piece}"
+    );
+    assert!(rt; &room[..request.len()] == request.as_slice());
+    assert!(rt; matches!(front.stage(), Stage::Passing));
+    front.known();
+}
+
+#[test]
+fn a_whole_head_without_a_body_is_shown_at_once(rt: HostRuntime) {
+    for piece in [1u32, 9, 27] {
+        check_at_once(&rt, piece);
+    }
+}
+
 #[test]
 fn what_is_written_to_a_front_is_written_to_its_client(rt: HostRuntime) {
     let mut front = Front::make(rt.alloc(), client(&rt, b"", 1)).expect(&rt, MEMORY);
@@ -165,6 +228,7 @@ fn an_upload_of_the_origin_s_own_gets_the_client_inside(rt: HostRuntime) {
 
 #[test]
 fn the_laws_hold(_rt: HostRuntime) {
+    limits();
     one_shown();
     one_upload();
 }

@@ -14,7 +14,7 @@ use Rattle.ts_group.specs.declared.either.Either.{Either}
 use Rattle.ts_group.specs.declared.either.Either.TheVariants.{One, Other}
 use Rattle.ts_group.specs.declared.either.EitherTag.{EitherTag}
 use Rattle.ts_group.specs.declared.either.EitherTag.TheVariants as kind
-use Rattle.ts_layers.specs.Layers.{carrier_link, front_link}
+use Rattle.ts_layers.specs.Links.{ClientEnd, OriginEnd, client_link, origin_link}
 use Rattle.ts_link.specs.declared.link.Link as link
 use Rattle.ts_plugin.specs.Replies.{IsReplyOf}
 use Rattle.ts_plugin.specs.World.{IsPluginOf, OnlyAnswers}
@@ -22,8 +22,6 @@ use Rattle.ts_plugin.specs.declared.plugin.Plugin.{Plugin}
 use Rattle.ts_plugin.specs.declared.plugin.PluginTag.{PluginTag}
 use Rattle.ts_plugin.specs.declared.question.HookQuestion.{HookQuestion}
 use Rattle.ts_plugin.specs.declared.question.HookReply.{HookReply}
-use Rattle.ts_request.specs.Front.{FrontSeen}
-use Rattle.ts_request.specs.declared.carrier.Carrier.{Carrier}
 use Rattle.ts_slot.specs.Limits.{most_groups}
 use Rattle.ts_txn.specs.Asking.{IsRightFor, MayAskGroup}
 use Rattle.ts_txn.specs.Making.{IsTxnSetup}
@@ -103,10 +101,10 @@ module _ (C O Q : Type 0) (clients : link.Ghosts C) (origins : link.Ghosts O) (s
     (at_places : terms.plugins_at ≡ PLACES) (are : ArePluginsOf setup.plugins.items others) where
   -- a transaction with layers, and the terms that it fits
   abbrev Layered : Type 0
-  Layered = Txn (FrontSeen C) (Carrier O Q) Q
+  Layered = Txn (ClientEnd C) (OriginEnd O Q) Q
 
   abbrev FitsPlace : TxnTerms → Place Layered → Type 0
-  FitsPlace = PlaceFits (λ tag t. IsTxnOf (front_link clients) (carrier_link origins) tag t)
+  FitsPlace = PlaceFits (λ tag t. IsTxnOf (client_link clients) (origin_link origins) tag t)
       (KeepsTerms clients.look)
 
   -- whom a world of the server may ask, which replies are right for it, and which it gives
@@ -211,8 +209,8 @@ module _ (C O Q : Type 0) (clients : link.Ghosts C) (origins : link.Ghosts O) (s
   replies j k (kind.Other s) u (Other p) v q r there fits at fit answers = tt
 
   -- the groups of the server can ask each other
-  pub server_asks : CanAskInServer (λ tag t. IsTxnOf (front_link clients) (carrier_link origins) tag t)
-      (KeepsTerms clients.look) (MayAskGroup {C = FrontSeen C} {O = Carrier O Q} {Q = Q}) IsRightFor
+  pub server_asks : CanAskInServer (λ tag t. IsTxnOf (client_link clients) (origin_link origins) tag t)
+      (KeepsTerms clients.look) (MayAskGroup {C = ClientEnd C} {O = OriginEnd O Q} {Q = Q}) IsRightFor
       (λ t question reply. LetsContinue question reply) IsPluginOf (λ tag. true) (λ p group. ⊥) (λ p group question reply. ⊤)
       (λ p question reply. IsReplyOf p.line question reply) tags
   server_asks = record { others = asks_others; replies = replies }

@@ -1,10 +1,11 @@
-//! A net that is served by transactions of one setup, which carry the bodies of requests, with the plugins of
-//! its lines beside them.
+//! A net that is served by transactions of one setup, which have its layers over their ends, with the plugins
+//! of its lines beside them.
 
 ghost use Rattle.std.specs.Prelude.{◌≡◌, ◌<◌, ◌≤◌, is_some, true, IfOk};
 ghost use Rattle.std.specs.Arc.{arc_value};
-ghost use Rattle.ts_exchange.specs.Left.{has_ended, holds_origin, number_of};
-ghost use Rattle.ts_layers.specs.Layers.{carrier_link, carrier_origin, front_link};
+ghost use Rattle.ts_exchange.specs.Left.{has_ended, number_of};
+ghost use Rattle.ts_layers.specs.Layers.{holds_origin};
+ghost use Rattle.ts_layers.specs.Links.{client_link, origin_link, origin_uploads};
 ghost use Rattle.ts_passing.specs.Lines.{ActsAsLines};
 ghost use Rattle.ts_thread.specs.declared.TheConstants.{MOST_THREADS};
 ghost use Rattle.ts_txn.specs.Making.{IsTxnSetup};
@@ -18,6 +19,7 @@ ghost use Rattle.ts_serve.specs.Served.{AreRetired, IsServed};
 ghost use Rattle.ts_serve.specs.Tenants.{MayLive};
 
 use crate::acceptor::{PLACES, Served};
+use crate::placed::PlacedExchange;
 use crate::run::serve;
 use crate::service::Host;
 use crate::tenant::{Handler, Tenant};
@@ -26,10 +28,10 @@ use std::snapshot::Snapshot;
 use std::sync::{Arc, Wait};
 use std::thread::Threads;
 use ts_config::{Setup, TransformLine};
-use ts_exchange::{ExchangeSetting, Promise, has_ended, has_origin, plugins_of, take_apart};
+use ts_exchange::{ExchangeSetting, Promise, has_ended, plugins_of};
 use ts_hooks::HookAnswer;
 use ts_journal::Journal;
-use ts_layers::{LayeredExchange, make_layered, plain_parts};
+use ts_layers::{PlainExchange, has_origin, make_layered, take_layered_apart};
 use ts_link::{Clock, Gate, NoMemory, Sourced};
 use ts_plugin::{HookQuestion, HookReply, Plugin};
 use ts_transform::Transform;
@@ -50,9 +52,12 @@ const PROMISE: Promise = Promise {
     is_first: false,
 };
 
+// Nobody reports what was taken in the place of an origin, so it is not kept.
+const KEEPS: bool = false;
+
 /// Its tag says what the place promises, and that its number is the name of its client.
 impl<C: Sourced + Drop, O: Upstream<C> + Drop, P: Transform<Line = TransformLine> + Drop> Tenant
-    for LayeredExchange<C, O, P> {
+    for PlacedExchange<C, O, P> {
     type Terms = TxnTerms;
 
     ghost keeps = { KeepsTerms C.look };
@@ -74,7 +79,7 @@ impl<C: Sourced + Drop, O: Upstream<C> + Drop, P: Transform<Line = TransformLine
 impl<C: Sourced + Drop, O: Upstream<C> + Drop, P: Transform<Line = TransformLine> + Drop> Handler<
     C,
     O,
-> for LayeredExchange<C, O, P> {
+> for PlacedExchange<C, O, P> {
     type Setting = ExchangeSetting;
 
     ghost are_terms = { AreTerms };
@@ -108,41 +113,71 @@ impl<C: Sourced + Drop, O: Upstream<C> + Drop, P: Transform<Line = TransformLine
         number: u64,
         client: C,
         origin: Option<O>,
-    ) -> Result<LayeredExchange<C, O, P>, NoMemory>
+    ) -> Result<PlacedExchange<C, O, P>, NoMemory>
         requires setting { IsTxnSetup (arc_value setting.now.setup) setting.now.plugins_at
             × ActsAsLines P.Transform }
         requires arrival { IsArrival C.Link O.Link O.Upstream.own number client origin }
         ensures number { IfOk result (λ exchange. number_of exchange ≡ number) }
         ensures origin { IfOk result (λ exchange. holds_origin exchange ≡ is_some origin) }
         ensures lives { IfOk result (λ exchange. (terms : TxnTerms) → AreTerms setting.now terms
-            → MayLive (IsTxnOf (front_link C.Link) (carrier_link O.Link)) (KeepsTerms C.look)
-            (λ t s roles. IsSoundTxn (front_link C.Link) (carrier_link O.Link)
-            (carrier_origin C.Link O.Link O.Upstream.own P.Transform) P.Transform t s.pending s.next roles)
+            → MayLive (IsTxnOf (client_link C.Link) (origin_link O.Link)) (KeepsTerms C.look)
+            (λ t s roles. IsSoundTxn (client_link C.Link) (origin_link O.Link)
+            (origin_uploads C.Link O.Link O.Upstream.own P.Transform) P.Transform t s.pending s.next roles)
             terms exchange) }
     {
-        let (exchange, _tag) = make_layered(alloc, setting, number, PROMISE, client, origin)?;
-        Ok(exchange)
+        let (exchange, _tag) = make_layered(
+            alloc, setting, number, PROMISE, KEEPS, client, origin,
+        )?;
+        Ok(PlacedExchange { exchange })
     }
 
     fn number(&self) -> u64 {
-        self.number()
+        self.exchange.number()
     }
 
     fn has_origin(&self) -> bool {
-        has_origin(self)
+        has_origin(&self.exchange)
     }
 
     fn has_ended(&self) -> bool {
-        has_ended(self)
+        has_ended(&self.exchange)
     }
 
     fn retire(self, journal: Journal) -> Retired<C, O> {
-        let shown = take_apart(self);
-        Retired {
-            parts: plain_parts(shown),
-            journal,
-        }
+        let PlainExchange { parts, .. } = take_layered_apart(self.exchange);
+        Retired { parts, journal }
     }
+}
+
+// Serves a net of these clients and these origins as `serve_transactions` does.
+fn serve_links<
+    N: Net<Client = K, Origin = O>,
+    K: Sourced + Drop + Send,
+    O: Upstream<K> + Drop + Send,
+    Q: Transform<Line = TransformLine> + Drop + Send,
+    G: Gate + Sync,
+    C: Clock + Sync,
+    R: Threads + Wait + Sync,
+>(host: &Host<'_, G, C, R>, setup: Arc<Setup>, threads: u32, most: u32, net: &mut N) -> Served
+    requires setup { IsTxnSetup (arc_value setup) PLACES }
+    requires acts { ActsAsLines Q.Transform }
+    requires threads { (0 < threads) × (threads ≤ MOST_THREADS) }
+    requires net { IsFreshNet (N.seen net.old) }
+    ensures retired { N.tells ≡ true → AreRetired
+        (IsTxnDone K.Link O.Link O.Upstream.own Q.Transform (arc_value setup) PLACES)
+        (N.seen net.old) (N.seen net.new) }
+    ensures served { IsServed result most (N.seen net.old) (N.seen net.new) }
+{
+    let Ok(plugins) = plugins_of(host.alloc, setup.plugins.as_slice()) else {
+        return Served::NoMemory;
+    };
+    let setting = ExchangeSetting {
+        setup,
+        plugins_at: PLACES,
+    };
+    serve::<N, PlacedExchange<K, O, Q>, Plugin, G, C, R>(
+        host, &setting, plugins, threads, most, net,
+    )
 }
 
 /// Serves a net that has begun to listen, with so many event threads, until so many clients came, or it is
@@ -165,14 +200,5 @@ pub fn serve_transactions<
         (N.seen net.old) (N.seen net.new) }
     ensures served { IsServed result most (N.seen net.old) (N.seen net.new) }
 {
-    let Ok(plugins) = plugins_of(host.alloc, setup.plugins.as_slice()) else {
-        return Served::NoMemory;
-    };
-    let setting = ExchangeSetting {
-        setup,
-        plugins_at: PLACES,
-    };
-    serve::<N, LayeredExchange<N::Client, N::Origin, Q>, Plugin, G, C, R>(
-        host, &setting, plugins, threads, most, net,
-    )
+    serve_links::<N, N::Client, N::Origin, Q, G, C, R>(host, setup, threads, most, net)
 }

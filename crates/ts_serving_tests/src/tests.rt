@@ -8,3 +8,4 @@ mod crowds;
 mod faults;
 mod leftovers;
 mod memory;
+mod naming;

@@ -1,6 +1,7 @@
 //! The words after the program's name, and the command that they are of.
 ghost use Rattle.std.specs.Prelude.{◌≡◌, true};
-ghost use Rattle.ts_proxy.specs.Ends.{HasCause, Takes};
+ghost use Rattle.ts_proxy.specs.Answers.{HasOutput};
+ghost use Rattle.ts_proxy.specs.Ends.{Completes, HasCause, Takes};
 ghost use Rattle.ts_proxy.specs.Lines.{IsAnswerOf, SaysLine};
 ghost use Rattle.ts_proxy.specs.Outcome.{outcome_of};
 ghost use Rattle.ts_proxy.specs.Serving.{LeavesNet};
@@ -53,6 +54,9 @@ pub fn run_words<
     ensures status { EndsAs S.tells (S.seen shelf.old) words result }
     ensures cause { HasCause (task_asked words) result
         (S.seen shelf.old) (S.seen shelf.new) (K.seen out.old) (K.seen out.new) }
+    ensures completes { is_told S.tells (task_asked words) ≡ true →
+        HasOutput (outcome_of (S.seen shelf.old) (task_asked words)) →
+        Completes result (S.seen shelf.old) (S.seen shelf.new) (K.seen out.old) (K.seen out.new) }
     ensures takes { K.tells ≡ true → Takes (is_told S.tells (task_asked words))
         (outcome_of (S.seen shelf.old) (task_asked words)) result (K.seen out.old) (K.seen out.new) }
     ensures line { (answer : Answer) × IsAnswerOf S.tells (S.seen shelf.old) (task_asked words) answer

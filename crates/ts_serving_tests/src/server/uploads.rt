@@ -7,29 +7,31 @@ use ts_link::NoMemory;
 use ts_mem_nets::links::{Side, Stalling, at_once, staying};
 use ts_mem_nets::visit::{Visit, page};
 
-// A request with a body of three bytes.
-const POST: &[u8] = b"POST / HTTP/1.1\r\nHost: a\r\nContent-Length: 3\r\n\r\nabc";
+/// A request with a body of three bytes.
+pub const POST: &[u8] = b"POST / HTTP/1.1\r\nHost: a\r\nContent-Length: 3\r\n\r\nabc";
 
-// What the origin gets of it with nothing configured.
-const POST_SENT: &[u8] =
+/// What the origin gets of it with nothing configured.
+pub const POST_SENT: &[u8] =
     b"POST / HTTP/1.1\r\nhost: a\r\nvia: 1.1 tsx\r\nconnection: close\r\ncontent-length: 3\r\n\r\nabc";
 
 // What it gets where a line puts a byte before the body.
 const CHUNKED_SENT: &[u8] = b"POST / HTTP/1.1\r\nhost: a\r\nvia: 1.1 tsx\r\nconnection: close\r\n\
 transfer-encoding: chunked\r\n\r\n4\r\n<abc\r\n0\r\n\r\n";
 
-// The request without the last byte of its body, what the origin gets of it, and what its client is answered.
-const CUT: &[u8] = b"POST / HTTP/1.1\r\nHost: a\r\nContent-Length: 3\r\n\r\nab";
+/// The request without the last byte of its body.
+pub const CUT: &[u8] = b"POST / HTTP/1.1\r\nHost: a\r\nContent-Length: 3\r\n\r\nab";
 
-const CUT_SENT: &[u8] =
+/// What the origin gets of that.
+pub const CUT_SENT: &[u8] =
     b"POST / HTTP/1.1\r\nhost: a\r\nvia: 1.1 tsx\r\nconnection: close\r\ncontent-length: 3\r\n\r\nab";
 
+// What its client is answered.
 const BAD_REQUEST: &[u8] =
     b"HTTP/1.1 400 Bad Request\r\ncontent-type: text/plain\r\ncontent-length: 16\r\n\
 connection: close\r\n\r\n400 Bad Request\n";
 
-// A client that gives that request so, and gets a page of three letters.
-fn posting(client: Side<'_>) -> Visit<'_> {
+/// A client that gives that request so, and gets a page of three letters.
+pub fn posting(client: Side<'_>) -> Visit<'_> {
     Visit {
         client,
         sent: POST_SENT,

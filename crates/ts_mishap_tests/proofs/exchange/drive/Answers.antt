@@ -1,5 +1,5 @@
 -- The groups fit the tags of the row and tell their numbers, and the transaction has ended then.
-use Rattle.std.proofs.Common.{◌≡◌, ◌∷◌, ◌∙◌, sym, subst}
+use Rattle.std.proofs.Common.{◌≡◌, ◌∙◌, sym, subst}
 use Rattle.ts_group.specs.declared.either.Either.TheVariants.{One}
 use Rattle.ts_journal.specs.Log.{Log}
 use Rattle.ts_mishap_tests.specs.Begun.{HasEndedOr}
@@ -24,11 +24,8 @@ returns g c =
     let begun = c.requires.begun in
     let first = row_ends g.C.Link g.O.Link g.O.Upstream g.P.Transform c.args.row.groups.items
     c.finish.new.groups.items c.finish.result begun c.in_ok-finish.was c.finish.ensures.finishes in
-    let front : c.finish.new.groups.items ≡ c.in-Some.group ∷ c.pop_front.new.self.items =
-    sym c.from_vec-left.ensures.items ∙ c.in-Some.ensures.items in
-    let world : c.in-Some.group.world ≡ One c.in-One.txn = cc in
+    let taken = c.in-Some.ensures in
+    let world : taken.group.world ≡ One c.in-One.txn = sym taken.world_is ∙ (cc) in
     let ended = first_ended g.C.Link g.O.Link g.O.Upstream g.P.Transform begun.tag c.finish.new.groups.items
-    c.pop_front.new.self.items c.in-Some.group c.in-One.txn begun.started first front world in
-    record {
-      ended = subst (λ (l : Log). HasEndedOr c.in-One.txn l.state) (sym c.into_parts-world.ensures.1) ended;
-    }
+    taken.behind taken.group c.in-One.txn begun.started first taken.are world in
+    record { ended = subst (λ (l : Log). HasEndedOr c.in-One.txn l.state) (sym taken.journal_is) ended }

@@ -3,7 +3,7 @@ use Rattle.std.proofs.Common.{◌≡◌, ℕ, ◌+◌, ◌≤◌, List, [], leng
 use Rattle.ts_config.specs.Setup.{lines_of}
 use Rattle.ts_config.specs.declared.setup.FilePlace.{FilePlace}
 use Rattle.ts_proxy.specs.Outcome.{place_filled}
-use Rattle.ts_proxy.proofs.FilledLines.{cut-at, fills-more, stopped-comes}
+use Rattle.ts_proxy.proofs.FilledLines.{cut-at, fills-more, named-in-config, stopped-comes}
 use Rattle.ts_proxy.proofs.filling.fill_setup.Goals as goal
 
 pub loop-k-preserved : goal.loop-k-preserved
@@ -45,3 +45,7 @@ returns-in-Err-clause-named g c = λ tells.
     stopped-comes files all (lines_of c.args.setup) (drop k all) (drop (k + 1) all) c.index-place.result.now
     (lines_of c.loop-k.setup) c.in-Err.answer (c.loop-k.invariant.told tells)
     (cut-at all held k c.index-place.result.now kept below c.index-place.ensures) c.in-Err.ensures.named
+
+pub returns-in-Err-clause-of_line : goal.returns-in-Err-clause-of_line
+returns-in-Err-clause-of_line g c =
+    named-in-config (lines_of c.loop-k.setup) c.index-place.result.now c.in-Err.answer c.in-Err.ensures.named

@@ -30,23 +30,23 @@ parts-smaller c =
     c.in-Unfinished.is
     c.feed-fed.ensures.takes c.feed-fed.ensures.stays c.split_at.ensures.back
 
-pub returns-in_default : goal.returns-in_default
-returns-in_default c = λ pieces is.
+pub returns-in_default-clause-body : goal.returns-in_default-clause-body
+returns-in_default-clause-body c = λ pieces is.
     let small = c.in_ok-body.body.small in
     let room = c.in_ok-body.ensures.capacity in
     let few : length c.args.framed.now ≤ body_limit = omega (arith, small, room) in
-    c.of_vec.ensures ∙ body_read c.args.framed.now c.extend_from_slice.new.self.items pieces
+    c.octets_of.ensures.same ∙ body_read c.args.framed.now c.extend_from_slice.new.self.items pieces
     c.feed-fed.result.state is few
     (stopped c.args.framed.now c.parts.rest.now c.parts.body.items c.parts.reader c.feed-fed.new.self
     c.feed-fed.result c.parts.invariant c.extend_from_slice.new.self.items
     c.in_ok-extend_from_slice.ensures.items c.in_default.not-Unfinished c.feed-fed.ensures.body)
 
-pub returns : goal.returns
-returns c = λ pieces is.
+pub returns-clause-body : goal.returns-clause-body
+returns-clause-body c = λ pieces is.
     let small = c.in_ok-body.body.small in
     let room = c.in_ok-body.ensures.capacity in
     let few : length c.args.framed.now ≤ body_limit = omega (arith, small, room) in
-    c.of_vec-2.ensures ∙ body_read c.args.framed.now c.parts.body.items pieces
+    c.octets_of-2.ensures.same ∙ body_read c.args.framed.now c.parts.body.items pieces
     (state_of c.parts.reader.phase) is few
     (all_fed c.args.framed.now c.parts.rest.now c.parts.body.items c.parts.reader c.parts.invariant
     (nil_from_length c.parts.rest.now

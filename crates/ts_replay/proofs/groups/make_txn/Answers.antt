@@ -1,5 +1,5 @@
 -- Two recorded sides that were just made are the ends of a transaction, and its tag is that of the recording.
-use Rattle.std.proofs.Common.{◌≡◌, Some, None, ap, false, subst, sym, ◌∙◌}
+use Rattle.std.proofs.Common.{◌≡◌, Some, None, ap, false, subst, sym, true, ◌∙◌}
 use Rattle.std.specs.Arc.{arc_value}
 use Rattle.ts_exchange.specs.Ends.{Ends, ends_of}
 use Rattle.ts_layers.specs.Layers.{AreSureLayers, IsLayeredTag}
@@ -44,8 +44,8 @@ returns-clause-tag c =
       between = subst (λ o. IsLayeredTag (record ends {
         client = recorded_side c.args.txn.client c.args.txn.leave;
         origin = Some o;
-      }) recorded_promise false c.in_ok-group.tag) of_origin
-          (subst (λ l. IsLayeredTag (record ends { client = l }) recorded_promise false c.in_ok-group.tag)
+      }) true recorded_promise false c.in_ok-group.tag) of_origin
+          (subst (λ l. IsLayeredTag (record ends { client = l }) true recorded_promise false c.in_ok-group.tag)
           of_client c.in_ok-group.ensures.tag);
       takes_some = c.requires.leave;
     }

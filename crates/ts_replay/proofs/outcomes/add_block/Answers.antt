@@ -12,5 +12,6 @@ returns-in-One c =
         shown = c.in_ok-block-in-One.ensures.shown;
         ended = c.in_ok-block-in-One.ensures.ended;
         reported = c.in_ok-block-in-One.ensures.reported;
+        chose = c.in_ok-block-in-One.ensures.chose;
       },
     )

@@ -4,10 +4,7 @@ use Rattle.std.proofs.lemmas.List.{nil_from_length}
 use Rattle.ts_record.specs.declared.recording.TheConstants.{MOST_TXNS}
 use Rattle.ts_replay.specs.declared.running.TheConstants.{BUDGET}
 use Rattle.ts_replay.specs.Members.{members}
-use Rattle.ts_replay.specs.Recorded.{layered_client, layered_link, layered_origin}
-use Rattle.ts_stock.specs.StockTransform.{stock_transform}
-use Rattle.ts_txn.specs.LoweringCourse.{transaction_left}
-use Rattle.ts_replay.proofs.Askers.{layers_tell, members_few, row_asks, row_starts, row_tells}
+use Rattle.ts_replay.proofs.Askers.{members_few, row_asks, row_starts, row_tells}
 use Rattle.ts_replay.proofs.Ended.{none_done, row_done}
 use Rattle.ts_replay.proofs.Plans.{none_of, numbers_left, some_of, turns_few}
 use Rattle.ts_replay.proofs.running.run_row.Goals as goal
@@ -20,8 +17,8 @@ returns-then-is_empty g c = λ setup txns all row.
     (none_of c.is_empty.result _ (length c.args.row.groups.items) c.is_empty.ensures c.if-is_empty.true
     c.args.row.groups.ok.0))
 
-pub run_whole-requires-clause-run : goal.run_whole-requires-clause-run
-run_whole-requires-clause-run g c κs within =
+pub run_links-requires-clause-run : goal.run_links-requires-clause-run
+run_links-requires-clause-run g c κs within =
     let row = c.requires.row.4 in
     let txns = c.requires.row.1 in
     let few : c.args.starts ≤ MOST_TXNS = (let all = c.requires.row.3 in let most = c.requires.row.2
@@ -43,17 +40,14 @@ run_whole-requires-clause-run g c κs within =
       asks = row_asks c.requires.row.0 txns c.args.row.tags.items row.groups_are.tags_are;
     }
 
-pub run_whole-requires-clause-tells : goal.run_whole-requires-clause-tells
-run_whole-requires-clause-tells g c κs within = λ k d low h fits.
-    row_tells (λ t s. transaction_left layered_client layered_link layered_origin stock_transform t.core
-    t.course s.pending) h.cx.log.state
-    (λ t. layers_tell t.core t.course h.cx.log.state.pending) h.world
+pub run_links-requires-clause-tells : goal.run_links-requires-clause-tells
+run_links-requires-clause-tells g c κs within = row_tells c.args.row.tags.items
 
-pub returns-in-Ok : goal.returns-in-Ok
-returns-in-Ok g c = λ setup txns all row.
+pub returns : goal.returns
+returns g c = λ setup txns all row.
     let few : c.args.starts ≤ MOST_TXNS = (let of_row = c.requires.row.3 in
     let most = c.requires.row.2 in omega (arith, of_row, most)) in
-    row_done setup txns c.args.row.tags.items c.args.row.groups.items c.in-Ok.groups.items c.args.starts
+    row_done setup txns c.args.row.tags.items c.args.row.groups.items c.in_ok-groups.groups.items c.args.starts
     c.args.threads BUDGET row.lines row.groups_are all
     (numbers_left _ (turns_few c.args.starts c.args.threads few c.requires.threads.1))
-    c.in-Ok.ensures.ended
+    c.in_ok-groups.ensures

@@ -1,0 +1,2 @@
+-- The definitions that the contracts of the tests cite.
+pub mod Telling
