@@ -16,3 +16,4 @@ mod Tried
 mod Asked
 mod Later
 mod Settled
+mod Crossing

@@ -1,4 +1,7 @@
--- The plugins of the setup's lines stand beside the places, and the transactions ask them.
+-- The plugins of the setup's lines stand beside the places, and the transactions ask them. A transaction with
+-- its layers may go to another thread where its links and its transforms may.
+use denote.Exit.{no}
+use denote.Param.Send.{arg_send, param_send}
 use Rattle.std.proofs.Common.{◌∙◌, ap, refl, subst}
 use Rattle.std.specs.Arc.{arc_value}
 use Rattle.ts_config.specs.declared.setup.Setup.{Setup}
@@ -6,6 +9,7 @@ use Rattle.ts_exchange.specs.Plugins.{ArePluginsOf}
 use Rattle.ts_serve.specs.declared.acceptor.TheConstants.{PLACES}
 use Rattle.ts_serve.specs.declared.exchanges.TxnTerms.{TxnTerms}
 use Rattle.ts_serve.proofs.Askers.{plugins_few, plugins_stand, server_asks}
+use Rattle.ts_serve.proofs.Crossing.{placed_send}
 use Rattle.ts_serve.proofs.exchanges.serve_links.Goals as goal
 
 pub serve-requires-clause-others : goal.serve-requires-clause-others
@@ -32,3 +36,8 @@ returns-clause-retired g c = λ telling.
       plugins_at = PLACES;
     } in
     c.serve.ensures.retired telling terms (record { setup = refl; plugins_at = refl })
+
+pub serve-requires-send-W : goal.serve-requires-send-W
+serve-requires-send-W g c κs within =
+    param_send _ _ (arg_send _ no _
+    (placed_send _ _ _ g.K.Link g.O.Link c.type_bounds.send-K c.type_bounds.send-O c.type_bounds.send-Q))
