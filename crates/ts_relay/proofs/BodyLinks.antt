@@ -38,7 +38,7 @@ use Rattle.ts_relay.specs.Relaying.{AddsSome, StepsChain, short_end, step_after}
 use Rattle.ts_relay.specs.Duties.{MustReadOn, SettledAs, UnlessLacking}
 use Rattle.ts_relay.specs.BodyLinks.{HandlesLinks, HoldsLittle, KeepsQueued, KeepsShort, IsUnread}
 use Rattle.ts_relay.specs.BodyLinks.{IsUnwritten}
-use Rattle.ts_relay.specs.BodyLinks.{MindsBody}
+use Rattle.ts_relay.specs.BodyLinks.{MindsBody, QueuesFew}
 use Rattle.ts_relay.specs.BodyLinks.{OnlyOfBody, OnlyOfEnds, RestLeads, ReadsLinks, SendsRest, WritesLinks}
 use Rattle.ts_relay.specs.BodyLinks.{is_client_fault, is_late, is_origin_fault, pause_if}
 use Rattle.ts_link.specs.declared.clock.TheConstants.{RETRY_AFTER}
@@ -271,10 +271,10 @@ module _ {P : Type 0} (ct ot : Bool) (v w : View) (r s : Relay P) (step : BodySt
       (same_length r.driven.chain.first s.driven.chain.first (ap (λ k. k.first) chain))
 
   -- a text was queued for the client
-  queued_minds : (text cuts : List ℕ) → IsCalm step → cl ≡ false → ol ≡ false → v.client.outbox ≡ []
+  queued_minds : (text cuts : List ℕ) → IsCalm step → cl ≡ false → ol ≡ false → QueuesFew v w
       → QueuesText text cuts v w → length s.driven.chain.first ≤ length r.driven.chain.first → MindsBody ct ot
       v w r s step cl ol
-  queued_minds text cuts calm no_client no_origin none queued shorter =
+  queued_minds text cuts calm no_client no_origin few queued shorter =
       let look : w.client.look ≡ v.client.look = ap (λ (s : LinkSide). s.look) queued.client in
       record {
         client = calls_as v.client.look w.client.look false false (is_client_fault step) cl calm.client
@@ -290,26 +290,26 @@ module _ {P : Type 0} (ct ot : Bool) (v w : View) (r s : Relay P) (step : BodySt
         };
         unwritten = unwritten_same ot v.origin w.origin queued.origin;
         queued = queued_text ct text cuts v w queued;
-        queues = inr none;
+        queues = few;
         holds = unless_lacking (HoldsLittle v r.driven.chain → HoldsLittle w s.driven.chain) step (holds_kept
             v w r.driven.chain s.driven.chain
             (same_length v.origin.inbox w.origin.inbox (ap (λ (s : LinkSide). s.inbox) queued.origin))
             shorter);
       }
 
-  minds_queued : (text cuts : List ℕ) → IsCalm step → cl ≡ false → ol ≡ false → v.client.outbox ≡ []
+  minds_queued : (text cuts : List ℕ) → IsCalm step → cl ≡ false → ol ≡ false → QueuesFew v w
       → s.driven.chain ≡ r.driven.chain
       → QueuesText text cuts v w → MindsBody ct ot v w r s step cl ol
-  minds_queued text cuts calm no_client no_origin none chain queued = queued_minds text cuts calm no_client
-      no_origin none queued (same_length r.driven.chain.first s.driven.chain.first (ap (λ k. k.first) chain))
+  minds_queued text cuts calm no_client no_origin few chain queued = queued_minds text cuts calm no_client
+      no_origin few queued (same_length r.driven.chain.first s.driven.chain.first (ap (λ k. k.first) chain))
 
   -- that of a piece, which was taken from the chain
   minds_framed : (text cuts : List ℕ) (rest : P → List ℕ → List ℕ) (n : ℕ) → IsCalm step → cl ≡ false
-      → ol ≡ false → v.client.outbox ≡ [] → TakesAway rest n r.driven.chain s.driven.chain → QueuesText text
+      → ol ≡ false → QueuesFew v w → TakesAway rest n r.driven.chain s.driven.chain → QueuesText text
       cuts v w
       → MindsBody ct ot v w r s step cl ol
-  minds_framed text cuts rest n calm no_client no_origin none takes queued =
-      queued_minds text cuts calm no_client no_origin none queued (takes_first r.driven.chain.first
+  minds_framed text cuts rest n calm no_client no_origin few takes queued =
+      queued_minds text cuts calm no_client no_origin few queued (takes_first r.driven.chain.first
       r.driven.chain.stages n s.driven.chain.first
       s.driven.chain.stages takes.takes)
 
@@ -438,24 +438,23 @@ module _ {P : Type 0} (ct ot : Bool) (v w : View) (r s : Relay P) (step : BodySt
     origin = ap (λ (x : View). x.origin) same;
   }
 
-  pub writer_queued : (text cuts : List ℕ) → IsCalm step → v.client.outbox ≡ [] → s.driven.chain ≡
-      r.driven.chain
+  pub writer_queued : (text cuts : List ℕ) → IsCalm step → QueuesFew v w → s.driven.chain ≡ r.driven.chain
       → QueuesText text cuts v w → WritesLinks ct ot v w r s step
-  writer_queued text cuts calm none chain queued =
+  writer_queued text cuts calm few chain queued =
       record {
-        minds = minds_queued ct ot v w r s step (is_late step) false text cuts calm calm.late refl none
+        minds = minds_queued ct ot v w r s step (is_late step) false text cuts calm calm.late refl few
             chain queued;
         origin = queued.origin;
       }
 
   pub writer_framed : (text cuts : List ℕ) (rest : P → List ℕ → List ℕ) (n : ℕ) → IsCalm step
-      → v.client.outbox ≡ [] → TakesAway rest n r.driven.chain s.driven.chain → QueuesText text cuts v w
+      → QueuesFew v w → TakesAway rest n r.driven.chain s.driven.chain → QueuesText text cuts v w
       → WritesLinks ct ot v w r s
       step
-  writer_framed text cuts rest n calm none takes queued =
+  writer_framed text cuts rest n calm few takes queued =
       record {
         minds = minds_framed ct ot v w r s step (is_late step) false text cuts rest n calm calm.late
-            refl none takes queued;
+            refl few takes queued;
         origin = queued.origin;
       }
 

@@ -29,8 +29,8 @@ use Rattle.ts_block.specs.Block.{body_lines}
 use Rattle.ts_phases.specs.View.{View}
 use Rattle.ts_relay.specs.Feeding.{OnGoes}
 use Rattle.ts_relay.specs.Relaying.{GivesEnd, RelaysBody, step_after}
-use Rattle.ts_relay.specs.Duties.{AreBodyEndsRoused, IsBodyJoined, MustEnd, MustSend, RousesBoth, RousesOne}
-use Rattle.ts_relay.specs.Duties.{TellsDuty}
+use Rattle.ts_relay.specs.Duties.{AreBodyEndsRoused, IsBodyJoined, MustEnd, MustSend, MustWriteOut}
+use Rattle.ts_relay.specs.Duties.{RousesBoth, RousesOne, TellsDuty}
 use Rattle.ts_relay.specs.declared.last_writes.BodyStep.{BodyStep}
 use Rattle.ts_relay.specs.declared.last_writes.BodyStep.TheVariants as S
 use Rattle.ts_relay.specs.declared.relay.TheConstants.{MAIN}
@@ -157,20 +157,40 @@ stops_there : (short : Option Short) → is_some short ≡ true → short ≢ No
 stops_there None is none = false≢true is
 stops_there (Some why) is none = (let wrong : ◌≡◌ {A = Option Short} (Some why) None = none in cc)
 
--- where nothing waits and the chain has not finished, it must work where a body that stops short rests
-pub tells_short : {P : Type 0} (rests : Bool) (v : View) (r : Relay P) → v.client.outbox ≡ []
+-- where nothing must be written and the chain has not finished, it must work where a body that stops short
+-- rests
+pub tells_short : {P : Type 0} (rests : Bool) (v : View) (r : Relay P) → (MustWriteOut v r → ⊥)
     → (MustWrite r.driven.chain → ⊥) → (IsFinished r.driven.chain → ⊥) → is_some r.short ≡ true
     → ((rests ≡ true → Rests r.driven.chain) × (Rests r.driven.chain → rests ≡ true)) → TellsDuty rests v r
-tells_short {P} rests v r empty none more stops both = record {
+tells_short {P} rests v r held none more stops both = record {
   must_send = λ so. inr (inr (inr (stops_there r.short stops, both.0 so)));
   only = by_must;
 }
   where
     by_must : MustSend v r → rests ≡ true
-    by_must (inl some) = absurd (some empty)
+    by_must (inl some) = absurd (held some)
     by_must (inr (inl some)) = absurd (none some)
     by_must (inr (inr (inl all))) = absurd (more all)
     by_must (inr (inr (inr (stops, resting)))) = both.1 resting
+
+goes_on_there : (short : Option Short) → is_some short ≡ false → (short ≢ None) → ⊥
+goes_on_there None is stops = stops refl
+goes_on_there (Some why) is stops = false≢true (sym is)
+
+-- and where more of the body comes, it has nothing to do
+pub tells_none : {P : Type 0} (stops : Bool) (v : View) (r : Relay P) → (MustWriteOut v r → ⊥)
+    → (MustWrite r.driven.chain → ⊥) → (IsFinished r.driven.chain → ⊥) → is_some r.short ≡ stops
+    → stops ≡ false → TellsDuty stops v r
+tells_none {P} stops v r held none more is goes = record {
+  must_send = λ so. absurd (false≢true (sym goes ∙ so));
+  only = by_must;
+}
+  where
+    by_must : MustSend v r → stops ≡ true
+    by_must (inl some) = absurd (held some)
+    by_must (inr (inl some)) = absurd (none some)
+    by_must (inr (inr (inl all))) = absurd (more all)
+    by_must (inr (inr (inr (short, resting)))) = absurd (goes_on_there r.short (is ∙ goes) short)
 
 -- ---- no wake is lost
 

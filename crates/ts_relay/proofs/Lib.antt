@@ -13,6 +13,7 @@ pub mod LoweringPays
 pub mod LoweringRelay
 pub mod LoweringRest
 pub mod LoweringStages
+pub mod Queueing
 pub mod Relaying
 pub mod Settled
 pub mod Settling

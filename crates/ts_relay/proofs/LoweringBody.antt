@@ -11,8 +11,6 @@ use Rattle.ts_transform.specs.declared.pump.Stage.{Stage}
 use Rattle.ts_vconn.specs.declared.moves.Pulled.{Pulled}
 use Rattle.ts_vconn.specs.declared.moves.Pushed.{Pushed}
 use Rattle.ts_vconn.specs.MoveAnswers.{pull_again, push_again}
-use Rattle.ts_wire.specs.declared.frames.Mode.{Mode}
-use Rattle.ts_wire.specs.declared.frames.Mode.TheVariants as M
 use Rattle.ts_wire.specs.Frames.{IsPiece, end_of, frame_of}
 use Rattle.ts_wire.proofs.FrameLemmas.{length-frame_of}
 use Rattle.ts_upstream.specs.Uploads.{both}
@@ -28,6 +26,7 @@ use Rattle.ts_passing.proofs.Inserted.{changed_append, changed_behind, passing_m
 use Rattle.ts_phases.proofs.Lowering.{comes_hear, least_came, least_went, none_fall, one_if, passes_less}
 use Rattle.ts_phases.proofs.Lowering.{read_comes, told_fewer, went_some}
 use Rattle.ts_phases.proofs.LoweringSteps.{Calm, reads_calm, sends_calm}
+use Rattle.ts_relay.proofs.Queueing.{end_few}
 
 -- ---- sums
 
@@ -268,10 +267,6 @@ module _ {P : Type 0} (setup : Setup) (rest : P → List ℕ → List ℕ) (call
   ended_next : (i x x' out out' end hear work given : ℕ) → x' + i ≤ x → out' ≡ out + end → end ≤ 5
       → 2 + (x' + out') < end_room + (x + out) + hear + work + given
   ended_next i x x' out out' end hear work given again len few = omega (arith, again, len, few)
-
-  end_few : (mode : Mode) → length (end_of mode) ≤ 5
-  end_few M.Plain = omega arith
-  end_few M.Chunked = omega arith
 
   pub frames_end : (v w : View) (c : ChainState P) (come : Bool) → FramesEnd v w
       → Fewer (body_left setup rest calls v c come) (finish_left w)

@@ -473,9 +473,10 @@ must_weaker ct ot must also setup rest step v w r s a b leads lowers = record {
       quiet = idle.quiet;
     })
 
--- where nothing waits, the first continuation must write only where what the client gets ends
-pub rest_to_send : {P : Type 0} (v : View) (r : Relay P) → v.client.outbox ≡ []
-    → client_wait r.driven.chain ≡ [] → MustSend v r → MustEnd r
-rest_to_send v r empty none (inl some) = absurd (some empty)
-rest_to_send v r empty none (inr (inl some)) = absurd (some none)
-rest_to_send v r empty none (inr (inr all)) = all
+-- where the chain gave nothing, the first continuation must write only where something waits, or where what
+-- the client gets ends
+pub rest_to_send : {P : Type 0} (v : View) (r : Relay P) → client_wait r.driven.chain ≡ [] → MustSend v r
+    → (v.client.outbox ≢ []) ⊎ MustEnd r
+rest_to_send v r none (inl some) = inl some.0
+rest_to_send v r none (inr (inl some)) = absurd (some none)
+rest_to_send v r none (inr (inr all)) = inr all

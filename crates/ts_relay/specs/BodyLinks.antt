@@ -3,7 +3,7 @@
 -- origin is read on only while more may be given to the chain and there is room; and an end of the body
 -- waits only for its link (RFC 9112, sections 6.3 and 8; Developer's Guide, "Transformations").
 use Rattle.std.specs.Prelude.{◌≡◌, ℕ, ◌+◌, ◌<◌, ◌≤◌, ◌⊎◌, ◌++◌, List, [], length, Bool, true, false, Option}
-use Rattle.std.specs.Prelude.{Some}
+use Rattle.std.specs.Prelude.{Some, ◌==◌, if◌then◌else◌}
 use Rattle.ts_hooks.specs.declared.txn_end.TxnEnd.{TxnEnd}
 use Rattle.ts_hooks.specs.declared.txn_end.TxnEnd.TheVariants as E
 use Rattle.ts_journal.specs.declared.entry.Pending.{Pending}
@@ -20,6 +20,8 @@ use Rattle.ts_phases.specs.Ends.{IsFrontOf}
 use Rattle.ts_relay.specs.Relaying.{IsOfRoleFrom}
 use Rattle.ts_phases.specs.View.{LinkSide, View}
 use Rattle.ts_link.specs.declared.clock.TheConstants.{RETRY_AFTER}
+use Rattle.ts_wire.specs.Limits.{piece_limit}
+use Rattle.ts_relay.specs.declared.client_end.TheConstants.{MOST_FRAME, MOST_FRAMED, MOST_TOGETHER}
 use Rattle.ts_relay.specs.declared.relay.TheConstants.{MAIN, FIRST, READER}
 use Rattle.ts_relay.specs.declared.last_writes.BodyStep.{BodyStep}
 use Rattle.ts_relay.specs.declared.last_writes.BodyStep.TheVariants as S
@@ -69,10 +71,29 @@ pub record KeepsQueued (tells : Bool) (v w : View) : Type 0 where
   pub text : tells ≡ true → IsFrontOf (v.client.look.taken ++ v.client.outbox)
       (w.client.look.taken ++ w.client.outbox)
 
+-- how many bytes wait for the client at most once more was queued for it, where so many waited: one piece
+-- with its frame and the end of its body where none did, and else one block
+abbrev pub most_queued : ℕ → ℕ
+most_queued waits = if waits == 0 then MOST_FRAMED else MOST_TOGETHER
+
+-- a piece of so many bytes may be framed behind so many that wait, and then the end of its body
+pub record HasRoomFor (waits most : ℕ) : Type 0 where
+  pub piece : most ≤ piece_limit
+  pub fits : waits + most + MOST_FRAME ≤ most_queued waits
+
+-- the end of a body may be framed behind so many that wait
+abbrev pub MayEnd : ℕ → Type 0
+MayEnd waits = waits + MOST_FRAME ≤ most_queued waits
+
+-- no more waits for the client than did, or no more than may be queued for it
+abbrev pub QueuesFew : View → View → Type 0
+QueuesFew v w = (length w.client.outbox ≤ length v.client.outbox)
+    ⊎ (length w.client.outbox ≤ most_queued (length v.client.outbox))
+
 -- What a step of a body does with the links, each of which may have made it wait: a link's count of faults
 -- rises exactly where the step leads to the end for that; the origin is read on only where more of the body
--- may come and be given to the chain, and more is queued for the client only where nothing waits for it; so
--- little is held.
+-- may come and be given to the chain, and no more is queued for the client than one piece, or than one block
+-- where something waits for it; so little is held.
 pub record MindsBody {P : Type 0} (ctells otells : Bool) (v w : View) (r s : Relay P) (step : BodyStep)
     (client_late origin_late : Bool) : Type 0 where
   pub client : Calls v.client.look w.client.look (is_client_fault step) client_late
@@ -81,7 +102,7 @@ pub record MindsBody {P : Type 0} (ctells otells : Bool) (v w : View) (r s : Rel
   pub unread : IsUnread ctells v.client w.client
   pub unwritten : IsUnwritten otells v.origin w.origin
   pub queued : KeepsQueued ctells v w
-  pub queues : (length w.client.outbox ≤ length v.client.outbox) ⊎ (v.client.outbox ≡ [])
+  pub queues : QueuesFew v w
   pub holds : UnlessLacking step (HoldsLittle v r.driven.chain → HoldsLittle w s.driven.chain)
 
 -- What a step of the writer does with the links: nothing with the origin's.

@@ -28,10 +28,18 @@ MustReadOn r = (r.short ≡ None) × MustRead r.driven.chain
 abbrev pub MustEnd : {P : Type 0} → Relay P → Type 0
 MustEnd r = IsFinished r.driven.chain ⊎ ((r.short ≢ None) × Rests r.driven.chain)
 
--- the first continuation must write: something waits for the client, or the chain gave something, or what
--- the client gets ends here
+-- the head waits for the first bytes of its body: none was framed yet, and the reader has some of it at hand
+abbrev pub HoldsHead : {P : Type 0} → View → Relay P → Type 0
+HoldsHead v r = (v.sent.cuts.items ≡ []) × (v.origin.inbox ≢ []) × MustReadOn r
+
+-- what waits for the client must be written
+abbrev pub MustWriteOut : {P : Type 0} → View → Relay P → Type 0
+MustWriteOut v r = (v.client.outbox ≢ []) × (HoldsHead v r → ⊥)
+
+-- the first continuation must write: something waits for the client that is not a head which waits for its
+-- body, or the chain gave something, or what the client gets ends here
 abbrev pub MustSend : {P : Type 0} → View → Relay P → Type 0
-MustSend v r = (v.client.outbox ≢ []) ⊎ MustWrite r.driven.chain ⊎ MustEnd r
+MustSend v r = MustWriteOut v r ⊎ MustWrite r.driven.chain ⊎ MustEnd r
 
 -- While no event of a stage was lost, the continuations of a body have their roles, each that is roused has
 -- an event, and so has each stage that must work.

@@ -1,23 +1,54 @@
 //! Who must work while a body is passed on.
 ghost use Rattle.std.specs.Prelude.{◌↔◌, IsTrue};
 ghost use Rattle.ts_phases.specs.View.{view_of};
-ghost use Rattle.ts_relay.specs.Duties.{MustReadOn, TellsDuty};
+ghost use Rattle.ts_relay.specs.Duties.{HoldsHead, MustReadOn, MustWriteOut, TellsDuty};
 
+use crate::feed::holds_body;
 use crate::relay::Relay;
 use ts_link::Link;
 use ts_phases::Core;
 use ts_transform::Transform;
 use ts_upstream::Upstream;
 
-/// Whether the first continuation must work: something waits for the client, or the chain gave something,
-/// or what the client gets of the body ends here.
+// Whether the head waits for the first bytes of its body: none was framed yet, and the reader has some of it
+// at hand.
+fn holds_head<C: Link, O: Upstream<C>, P: Transform + Drop>(
+    core: &Core<C, O>,
+    relay: &Relay<P>,
+) -> bool
+    ensures { IsTrue result ↔ HoldsHead (view_of C.Link O.Link core.now) relay.now }
+{
+    if !core.sent.cuts.is_empty() {
+        return false;
+    }
+    if !holds_body(core) {
+        return false;
+    }
+    must_read_on(relay)
+}
+
+// Whether what waits for the client must be written.
+fn must_write_out<C: Link, O: Upstream<C>, P: Transform + Drop>(
+    core: &Core<C, O>,
+    relay: &Relay<P>,
+) -> bool
+    ensures { IsTrue result ↔ MustWriteOut (view_of C.Link O.Link core.now) relay.now }
+{
+    if core.client.outbox.is_empty() {
+        return false;
+    }
+    !holds_head(core, relay)
+}
+
+/// Whether the first continuation must work: something waits for the client that is not a head which waits
+/// for its body, or the chain gave something, or what the client gets of the body ends here.
 pub fn must_send<C: Link, O: Upstream<C>, P: Transform + Drop>(
     core: &Core<C, O>,
     relay: &Relay<P>,
 ) -> bool
     ensures { TellsDuty result (view_of C.Link O.Link core.now) relay.now }
 {
-    if !core.client.outbox.is_empty() {
+    if must_write_out(core, relay) {
         return true;
     }
     if relay.driven.chain().has_output() {

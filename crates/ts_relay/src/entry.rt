@@ -21,6 +21,7 @@ use crate::relay::{FIRST, READER, Relay};
 use ts_block::{framing_for, mode_of, relayed_with};
 use ts_config::TransformLine;
 use ts_group::Cx;
+use ts_iobuf::Waiting;
 use ts_link::{Link, NoMemory};
 use ts_phases::{Core, Request};
 use ts_transform::{DrivenChain, Loss, Transform, make_end};
@@ -84,6 +85,14 @@ fn begin_relay<P: Transform + Drop>(relay: &mut Relay<P>, cx: &mut Cx) -> BodySt
     begin_input(relay, cx)
 }
 
+// Begins a block behind what waits for a link, with room for a head and the first bytes of its body, so that
+// one write takes them. Where memory lacks, the head gets a block of its own.
+fn begin_block(outbox: &mut Waiting)
+    ensures { outbox.new ≡ outbox.old }
+{
+    let _ = outbox.buffer.space();
+}
+
 /// Queues the client's head of a response that is passed on, with the fields after its plugins, and makes
 /// what its body goes through.
 #[tactic(auto, using(crate::proofs::Entered::quiet_none, crate::proofs::Entered::quiet_head))]
@@ -110,6 +119,7 @@ pub fn queue_relay<C: Link, O: Upstream<C>, P: Transform<Line = TransformLine> +
         return Err(NoMemory);
     };
     let mode = mode_of(framing_for(&core.setup, &request.head, head));
+    begin_block(&mut core.client.outbox);
     match core.queue_head(text.bytes(), mode) {
         Ok(()) => Ok(made),
         Err(_) => Err(NoMemory),

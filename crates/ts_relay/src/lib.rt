@@ -30,9 +30,13 @@
 //! 2. The reader makes one step an event: it feeds what waits of the origin's bytes to the reader of bodies,
 //!    whose body bytes go to boundary 0, or, where nothing waits, it reads once. It feeds no byte behind the
 //!    body's end, and once the end was given, or the chain wants no more, the origin is read no more.
-//! 3. The first continuation makes one step an event: it writes once of what waits; or frames one piece of at
-//!    most 32,768 bytes, where nothing waits; or, once the chain has given all, frames the end and leaves the
-//!    body.
+//! 3. The first continuation makes one step an event: it frames one piece, of at most 32,768 bytes where
+//!    nothing waits, and else of no more than stands with all that waits in one block of 4,096 bytes; or, once
+//!    the chain has given all, it frames the end behind that, and leaves the body; or it writes once of what
+//!    waits. The head of a response goes into a block of that room. So a head and the first bytes of its body
+//!    go out in one write, and with them the end of a small body, where they are at hand: while none of the
+//!    body was framed and the reader has bytes to feed, the head waits for them (`HoldsHead`). A body that has
+//!    still to come keeps no head back.
 //! 4. Of a body that is cut or bad the reader notes which (`Relay::short`) and reads no more. The stages work
 //!    and the client's side writes until neither has anything to do. Has the chain finished by then, since a
 //!    limit was reached, the end is framed as ever; else the body is left with no end framed, and the client
@@ -47,7 +51,8 @@
 //!    them has finished early.
 //!
 //! A body is held nowhere whole but by a bnull line: what waits of the origin is one read, each boundary is
-//! below 98,304 bytes and what one end writes, and what waits for the client is one framed piece. Its bytes
+//! below 98,304 bytes and what one end writes, and what waits for the client is a head, one framed piece with
+//! the end of the body, or one block. Its bytes
 //! are copied once from what waits into boundary 0, once by each stage that changes them, and once into
 //! frames; a stage that passes them on shares the full ones of their blocks, and copies what stands in one in
 //! filling.

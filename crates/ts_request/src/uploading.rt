@@ -273,7 +273,26 @@ fn carry<C: Sourced + Drop, O: Upstream<C>, P: Transform<Line = TransformLine> +
     }
 }
 
-// Goes on with an upload that has begun: what waits is written, then the origin inside moves what it has to,
+// Goes on where some of the body waits for the origin: a stage works, or the end is framed behind it, so that
+// both go in one write; else what waits is written.
+fn carry_behind<C: Link + Drop, O: Upstream<C>, P: Transform<Line = TransformLine> + Drop>(
+    carrier: &mut Carrier<O, P>,
+) -> Uploaded
+    requires begun { IsBegun carrier.old.head }
+    requires some { carrier.old.out ≢ [] }
+    requires asked { carrier.old.asked ≡ true }
+    ensures { StepsWith C.Link O.Link O.Upstream.own P.Transform result carrier.old carrier.new }
+{
+    match next_of(carrier) {
+        Next::Work(at) => work_step::<C, O, P>(carrier, at),
+        Next::End => end_step::<C, O, P>(carrier),
+        Next::Finish | Next::Frame | Next::Lacks | Next::Refuse | Next::Feed | Next::Read => {
+            write_on::<C, O, P>(carrier)
+        }
+    }
+}
+
+// Goes on with an upload that has begun: its head is written, then the origin inside moves what it has to,
 // and then the body is carried.
 fn go_on<C: Sourced + Drop, O: Upstream<C>, P: Transform<Line = TransformLine> + Drop>(
     carrier: &mut Carrier<O, P>,
@@ -288,6 +307,9 @@ fn go_on<C: Sourced + Drop, O: Upstream<C>, P: Transform<Line = TransformLine> +
         return Uploaded::Done;
     }
     if !carrier.out.is_empty() {
+        if carrier.asked {
+            return carry_behind::<C, O, P>(carrier);
+        }
         return write_on::<C, O, P>(carrier);
     }
     if !carrier.asked {
@@ -312,6 +334,14 @@ fn begin_plain<C: Sourced + Drop, O: Upstream<C>, P: Transform<Line = TransformL
     carrier.head = HeadState::Sent { len, line: 0 };
 }
 
+// Begins a block behind what waits, with room for a piece of the body and its end, so that one write takes
+// them. Where memory lacks, each gets a block of its own.
+fn begin_block(out: &mut Waiting)
+    ensures { out.new ≡ out.old }
+{
+    let _ = out.buffer.space();
+}
+
 // Begins an upload: its head goes on with the line that says how the body is framed.
 fn begin_body<C: Sourced + Drop, O: Upstream<C>, P: Transform<Line = TransformLine> + Drop>(
     carrier: &mut Carrier<O, P>,
@@ -329,7 +359,8 @@ fn begin_body<C: Sourced + Drop, O: Upstream<C>, P: Transform<Line = TransformLi
     let passage = make_passage(carrier.alloc, lines, framing, mode_said(said))?;
     let len = carrier.out.len();
     let line = head.bytes().len().saturating_sub(len);
-    let out = Waiting::of_octets(carrier.alloc, head)?;
+    let mut out = Waiting::of_octets(carrier.alloc, head)?;
+    begin_block(&mut out);
     carrier.out = out;
     carrier.head = HeadState::Sent { len, line };
     carrier.passage = Some(passage);

@@ -8,7 +8,8 @@ use Rattle.ts_phases.specs.View.{OriginRefuses, view_of}
 use Rattle.ts_relay.specs.Finishing.{IsFinishing}
 use Rattle.ts_relay.proofs.BodyLinks.{calm_short, writer_queued, writer_rests}
 use Rattle.ts_passing.proofs.Early.{rests_soon}
-use Rattle.ts_relay.proofs.LoweringRelay.{lowers_whole, queues_lacks}
+use Rattle.ts_relay.proofs.LoweringRelay.{lowers_whole, must_weaker, queues_lacks}
+use Rattle.ts_relay.proofs.Queueing.{few_end, few_nothing}
 use Rattle.ts_relay.proofs.Relaying.{ends_short, ends_whole, frames_lacks}
 use Rattle.ts_relay.proofs.StepsOwed.{writer_still}
 use Rattle.ts_phases.proofs.Owed.{all_kept}
@@ -49,19 +50,24 @@ pub returns-then-is_finished-clause-lowers : goal.returns-then-is_finished-claus
 returns-then-is_finished-clause-lowers g c = λ now. lowers_whole _ _ _ _ _ _ _ _ now E.Whole
     c.in-Ok.ensures.ok
 
+-- what waits was written
+pub returns-then-not-is_empty-clause-lowers : goal.returns-then-not-is_empty-clause-lowers
+returns-then-not-is_empty-clause-lowers g c = λ now.
+    must_weaker _ _ _ _ _ g.P.Transform.rest _ _ _ _ _ now now (λ must. tt) (c.write_some.ensures.lowers now)
+
 -- ---- what it leaves
 
 pub returns-in_default-clause-steps : goal.returns-in_default-clause-steps
 returns-in_default-clause-steps g c = λ now turn.
     writer_still g.C.Link g.O.Link g.O.Upstream _ _ _ _ now turn c.end_body.ensures.keeps (writer_queued _ _ _
-    _ _ _ _ [] [] (record { client = refl; origin = refl; late = refl }) c.requires.empty
-    refl c.in_default.ensures.err)
+    _ _ _ _ [] [] (record { client = refl; origin = refl; late = refl })
+    (few_nothing _ _ c.in_default.ensures.err) refl c.in_default.ensures.err)
 
 pub returns-then-is_finished-clause-steps : goal.returns-then-is_finished-clause-steps
 returns-then-is_finished-clause-steps g c = λ now turn.
     writer_still g.C.Link g.O.Link g.O.Upstream _ _ _ _ now turn c.end_body.ensures.keeps (writer_queued _ _ _
-    _ _ _ _ _ [] (record { client = refl; origin = refl; late = refl }) c.requires.empty
-    refl c.in-Ok.ensures.ok)
+    _ _ _ _ _ [] (record { client = refl; origin = refl; late = refl })
+    (few_end _ _ c.requires.room c.in-Ok.ensures.ok) refl c.in-Ok.ensures.ok)
 
 pub returns-in_default-short-clause-steps : goal.returns-in_default-short-clause-steps
 returns-in_default-short-clause-steps g c = λ now turn.

@@ -9,6 +9,7 @@ use Rattle.ts_relay.specs.Duties.{MustSend}
 use Rattle.ts_relay.specs.LoweringBody.{LowersBody}
 use Rattle.ts_relay.proofs.BodyLinks.{calm_after, writer_framed, writer_queued}
 use Rattle.ts_relay.proofs.LoweringRelay.{frames_after, loses_runs, must_weaker, queues_lacks, rest_to_send}
+use Rattle.ts_relay.proofs.Queueing.{few_nothing, few_piece}
 use Rattle.ts_relay.proofs.Relaying.{frames_lacks, frames_step}
 use Rattle.ts_relay.proofs.Chaining.{chain_after, taken_order}
 use Rattle.ts_relay.proofs.StepsOwed.{writer_still}
@@ -43,7 +44,7 @@ returns-in_default-clause-lowers g c =
     c.args.relay.now) _ (arc_value c.args.core.now.setup) g.P.Transform.rest _
     (view_of g.C.Link g.O.Link c.args.core.now) (view_of g.C.Link g.O.Link c.end_some.new.core)
     c.args.relay.now c.args.relay.now c.args.cx.now c.args.cx.now
-    (rest_to_send (view_of g.C.Link g.O.Link c.args.core.now) c.args.relay.now c.requires.empty
+    (rest_to_send (view_of g.C.Link g.O.Link c.args.core.now) c.args.relay.now
     (ap client_wait (sym c.chain.ensures) ∙ c.in_default.ensures))
     (c.end_some.ensures.lowers c.args.cx.now)
 
@@ -79,8 +80,8 @@ returns-in_default-clause-steps g c = c.end_some.ensures.steps c.args.cx.now c.r
 pub returns-in_default-frame_body-clause-steps : goal.returns-in_default-frame_body-clause-steps
 returns-in_default-frame_body-clause-steps g c =
     writer_still g.C.Link g.O.Link g.O.Upstream _ _ _ _ _ c.requires.turn c.frame_body.ensures.keeps
-    (writer_queued _ _ _ _ _ _ _ [] [] (record { client = refl; origin = refl; late = refl }) c.requires.empty
-    refl c.in_default-frame_body.ensures.err)
+    (writer_queued _ _ _ _ _ _ _ [] [] (record { client = refl; origin = refl; late = refl })
+    (few_nothing _ _ c.in_default-frame_body.ensures.err) refl c.in_default-frame_body.ensures.err)
 
 pub returns-clause-steps : goal.returns-clause-steps
 returns-clause-steps g c = record {
@@ -90,7 +91,9 @@ returns-clause-steps g c = record {
       (view_of g.C.Link g.O.Link c.frame_body.new.self) c.args.relay.now
       (record c.args.relay.now { driven = c.take.new.self }) c.step_after.result _ _ g.P.Transform.rest _
       (calm_after c.take.result c.step_after.result
-      c.step_after.ensures) c.requires.empty c.take.ensures.takes c.in-Ok.ensures.ok;
+      c.step_after.ensures) (few_piece _ _ c.piece_of-piece.result.now c.args.most c.requires.room
+      c.piece_of-piece.ensures.piece c.piece_of-piece.ensures.most c.in-Ok.ensures.ok) c.take.ensures.takes
+      c.in-Ok.ensures.ok;
   chain =
       subst (λ s. StepsChain s 1 c.args.relay.now.driven c.take.new.self c.args.cx.now c.take.new.cx)
       (sym c.step_after.ensures)

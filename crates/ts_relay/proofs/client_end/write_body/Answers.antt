@@ -1,66 +1,18 @@
--- Each answer of a write of what waits: where it leads, what it leaves, and that it lowers what is left to
--- do.
-use Rattle.std.proofs.Common.{refl, sym, ◌∙◌}
-use Rattle.std.proofs.lemmas.Bool.{false≢true}
-use Rattle.ts_relay.proofs.LoweringRelay as lowering
-use Rattle.ts_relay.proofs.Relaying.{writes_lacks, writes_left, writes_on}
-use Rattle.ts_relay.proofs.StepsOwed.{writer_wrote_still}
+-- What waits was written, behind which no more may be framed.
+use Rattle.std.proofs.Common.{length, arith, ap, ◌∙◌}
+use Rattle.ts_relay.proofs.LoweringRelay.{must_weaker}
 use Rattle.ts_relay.proofs.client_end.write_body.Goals as goal
 
-pub returns-in-Some-clause-leads : goal.returns-in-Some-clause-leads
-returns-in-Some-clause-leads g c = λ told also.
-    writes_on _ _ _ _ _ _ _ _ _ _ told c.in-Some.ensures.writes (c.requires.fact told also)
+pub write_some-requires-clause-some : goal.write_some-requires-clause-some
+write_some-requires-clause-some g c = λ none. omega (
+  arith,
+  c.if-room-eq0.true,
+  c.room_behind-room.ensures.none (c.len.ensures ∙ ap length none),
+)
 
-pub returns-in-Some-clause-steps : goal.returns-in-Some-clause-steps
-returns-in-Some-clause-steps g c =
-    writer_wrote_still g.C.Link g.O.Link g.O.Upstream _ _ _ _ _ _ c.requires.turn c.write_client.ensures.keeps
-    c.in-Some.ensures.writes refl refl refl
+pub returns-then-room-eq0-clause-steps : goal.returns-then-room-eq0-clause-steps
+returns-then-room-eq0-clause-steps g c = c.write_some.ensures.steps c.args.cx.now c.requires.turn
 
-pub returns-in-Some-clause-lowers : goal.returns-in-Some-clause-lowers
-returns-in-Some-clause-lowers g c = lowering.writes_goes _ _ _ _ _ _ _ _ _ _ c.in-Some.ensures.writes
-
-pub returns-in-Nothing-clause-steps : goal.returns-in-Nothing-clause-steps
-returns-in-Nothing-clause-steps g c =
-    writer_wrote_still g.C.Link g.O.Link g.O.Upstream _ _ _ _ _ _ c.requires.turn c.write_client.ensures.keeps
-    c.in-Nothing.ensures.writes refl refl refl
-
-pub returns-in-Nothing-clause-lowers : goal.returns-in-Nothing-clause-lowers
-returns-in-Nothing-clause-lowers g c = lowering.writes_nothing _ _ _ _ _ _ _ _ _ c.in-Nothing.ensures.writes
-    (λ none. absurd
-    (false≢true (sym c.if-is_empty.false ∙ c.is_empty.ensures.1 none)))
-
-pub returns-in-Again-clause-leads : goal.returns-in-Again-clause-leads
-returns-in-Again-clause-leads g c = λ told also.
-    writes_on _ _ _ _ _ _ _ _ _ _ told c.in-Again.ensures.writes (c.requires.fact told also)
-
-pub returns-in-Again-clause-steps : goal.returns-in-Again-clause-steps
-returns-in-Again-clause-steps g c =
-    writer_wrote_still g.C.Link g.O.Link g.O.Upstream _ _ _ _ _ _ c.requires.turn c.write_client.ensures.keeps
-    c.in-Again.ensures.writes refl refl refl
-
-pub returns-in-Again-clause-lowers : goal.returns-in-Again-clause-lowers
-returns-in-Again-clause-lowers g c = lowering.writes_waits _ _ _ _ _ _ _ _ _ c.in-Again.ensures.writes
-
-pub returns-in-Failed-clause-leads : goal.returns-in-Failed-clause-leads
-returns-in-Failed-clause-leads g c = λ told also.
-    writes_left _ _ _ _ _ _ _ _ _ told c.in-Failed.ensures.writes (c.requires.fact told also)
-
-pub returns-in-Failed-clause-steps : goal.returns-in-Failed-clause-steps
-returns-in-Failed-clause-steps g c =
-    writer_wrote_still g.C.Link g.O.Link g.O.Upstream _ _ _ _ _ _ c.requires.turn c.write_client.ensures.keeps
-    c.in-Failed.ensures.writes refl refl refl
-
-pub returns-in-Failed-clause-lowers : goal.returns-in-Failed-clause-lowers
-returns-in-Failed-clause-lowers g c = lowering.writes_closes _ _ _ _ _ _ _ _ _ _ _ c.in-Failed.ensures.writes
-
-pub returns-in-NoMemory-clause-leads : goal.returns-in-NoMemory-clause-leads
-returns-in-NoMemory-clause-leads g c = λ told also.
-    writes_lacks _ _ _ _ _ _ _ _ _ _ told c.in-NoMemory.ensures.writes (c.requires.fact told also)
-
-pub returns-in-NoMemory-clause-steps : goal.returns-in-NoMemory-clause-steps
-returns-in-NoMemory-clause-steps g c =
-    writer_wrote_still g.C.Link g.O.Link g.O.Upstream _ _ _ _ _ _ c.requires.turn c.write_client.ensures.keeps
-    c.in-NoMemory.ensures.writes refl refl refl
-
-pub returns-in-NoMemory-clause-lowers : goal.returns-in-NoMemory-clause-lowers
-returns-in-NoMemory-clause-lowers g c = lowering.writes_lacks _ _ _ _ _ _ _ _ _ _ c.in-NoMemory.ensures.writes
+pub returns-then-room-eq0-clause-lowers : goal.returns-then-room-eq0-clause-lowers
+returns-then-room-eq0-clause-lowers g c = must_weaker _ _ _ _ _ g.P.Transform.rest _ _ _ _ _ c.args.cx.now
+    c.args.cx.now (λ must. tt) (c.write_some.ensures.lowers c.args.cx.now)
