@@ -1,5 +1,5 @@
-//! What single clients get: ones whose origin is not reached, ones that stall, ones that get the front of a
-//! page, and ones that leave at each byte.
+//! What single clients get: ones whose origin is not reached, ones that a line serves, ones that stall, ones
+//! that get the front of a page, and ones that leave at each byte.
 
 use crate::command::MEMORY;
 use crate::row::{Row, all_come, check};
@@ -15,6 +15,41 @@ use ts_mem_nets::visit::{Visit, page, unreached};
 fn an_origin_that_is_not_reached_is_answered_for(rt: HostRuntime) {
     let visits = [unreached(page()), page(), unreached(page())];
     check(&rt, &all_come(&visits));
+}
+
+// What a line `fill 0` serves.
+const SERVED: &[u8] = b"HTTP/1.1 200 OK\r\ncontent-type: text/plain\r\nvia: 1.1 tsx\r\n\
+content-length: 0\r\nconnection: close\r\n\r\n";
+
+// A line serves its host whether the origin is reached or not, and leaves that alone. A tap changes nothing.
+#[test]
+fn a_host_that_a_line_serves_needs_no_origin(rt: HostRuntime) {
+    let served = Visit {
+        sent: b"",
+        taken: SERVED,
+        ..page()
+    };
+    let alone = Visit {
+        origin: None,
+        ..served
+    };
+    let visits = [served, alone];
+    let row = Row {
+        config: b"intercept.so a fill 0\ntap.so 1\n",
+        ..all_come(&visits)
+    };
+    check(&rt, &row);
+}
+
+// Every other host has its origin, or the proxy's own answer where that is not reached.
+#[test]
+fn another_host_than_that_of_a_line_has_its_origin(rt: HostRuntime) {
+    let visits = [page(), unreached(page())];
+    let row = Row {
+        config: b"intercept.so b fill 0\n",
+        ..all_come(&visits)
+    };
+    check(&rt, &row);
 }
 
 // Who waits longer is served later, and nobody waits for it.
