@@ -1,6 +1,6 @@
 -- Who must work while a body is passed on, and that each duty has an event of a continuation that does it
 -- (Developer's Guide, "Continuations" and "Transformations").
-use Rattle.std.specs.Prelude.{◌≡◌, ◌≢◌, ℕ, ◌+◌, ◌≤◌, ◌⊎◌, List, [], ◌∷◌, Bool, true, Option, None, ⊤}
+use Rattle.std.specs.Prelude.{◌≡◌, ◌≢◌, ℕ, ◌+◌, ◌≤◌, ◌⊎◌, List, [], ◌∷◌, length, Bool, true, Option, None, ⊤}
 use Rattle.ts_journal.specs.declared.entry.TheConstants.{GREATEST}
 use Rattle.ts_journal.specs.declared.entry.Event.{Event}
 use Rattle.ts_journal.specs.declared.entry.Pending.{Pending}
@@ -28,9 +28,10 @@ MustReadOn r = (r.short ≡ None) × MustRead r.driven.chain
 abbrev pub MustEnd : {P : Type 0} → Relay P → Type 0
 MustEnd r = IsFinished r.driven.chain ⊎ ((r.short ≢ None) × Rests r.driven.chain)
 
--- the head waits for the first bytes of its body: none was framed yet, and the reader has some of it at hand
+-- the whole head waits for the first bytes of its body: none was framed yet, and the reader has some at hand
 abbrev pub HoldsHead : {P : Type 0} → View → Relay P → Type 0
-HoldsHead v r = (v.sent.cuts.items ≡ []) × (v.origin.inbox ≢ []) × MustReadOn r
+HoldsHead v r = (length v.client.outbox ≡ v.sent.head) × (v.sent.cuts.items ≡ []) × (v.origin.inbox ≢ [])
+    × MustReadOn r
 
 -- what waits for the client must be written
 abbrev pub MustWriteOut : {P : Type 0} → View → Relay P → Type 0

@@ -9,6 +9,7 @@ ghost use Rattle.ts_phases.specs.View.{view_of};
 ghost use Rattle.ts_relay.specs.StepsOwed.{EndLowers, WriterSteps};
 ghost use Rattle.ts_relay.specs.Relaying.{RelayHolds, RelayLeads};
 
+use crate::duties::must_send;
 use crate::last_writes::BodyStep;
 use crate::relay::{Relay, short_end, step_after};
 use ts_group::Cx;
@@ -146,7 +147,8 @@ fn frame_some<C: Link, O: Upstream<C>, P: Transform + Drop>(
 
 /// Makes one step of the writer: where nothing waits for the client, or all of it then stands in one block, it
 /// frames a piece of what the chain gave, or the end of the body once the chain has given all; else it writes
-/// once of what waits; or it leaves a body that stopped short once the chain rests.
+/// once of what waits; or it leaves a body that stopped short once the chain rests. A head that waits for its
+/// body it lets wait.
 pub fn write_body<C: Link, O: Upstream<C>, P: Transform + Drop>(
     core: &mut Core<C, O>,
     relay: &mut Relay<P>,
@@ -162,6 +164,9 @@ pub fn write_body<C: Link, O: Upstream<C>, P: Transform + Drop>(
         (MustSend (view_of C.Link O.Link core.old) relay.old)
         result relay.old relay.new cx.old cx.new }
 {
+    if !must_send(core, relay) {
+        return BodyStep::Goes;
+    }
     let room = room_behind(core.client.outbox.len());
     if room == 0 {
         return write_some(core, relay);

@@ -10,14 +10,17 @@ use ts_phases::Core;
 use ts_transform::Transform;
 use ts_upstream::Upstream;
 
-// Whether the head waits for the first bytes of its body: none was framed yet, and the reader has some of it
-// at hand.
+// Whether the whole head waits for the first bytes of its body: none was framed yet, and the reader has some at
+// hand.
 fn holds_head<C: Link, O: Upstream<C>, P: Transform + Drop>(
     core: &Core<C, O>,
     relay: &Relay<P>,
 ) -> bool
     ensures { IsTrue result ↔ HoldsHead (view_of C.Link O.Link core.now) relay.now }
 {
+    if core.client.outbox.len() as u64 != core.sent.head {
+        return false;
+    }
     if !core.sent.cuts.is_empty() {
         return false;
     }
