@@ -14,8 +14,9 @@ use Rattle.ts_link.specs.Seen.{ShelfSeen, SinkSeen}
 use Rattle.ts_proxy.specs.declared.answer.Answer.{Answer}
 use Rattle.ts_proxy.specs.declared.answer.Answer.TheVariants as a
 use Rattle.ts_proxy.specs.declared.command.GenerateTask.{GenerateTask}
-use Rattle.ts_proxy.specs.Answers.{ComesAt, CountsCause, IsCausedBy, IsTextOf, OnCannotRead, OnNetwork, OnQuiet}
-use Rattle.ts_proxy.specs.Answers.{TookAt, TookText, file_name, is_long, is_unread, is_unwritten}
+use Rattle.ts_proxy.specs.Answers.{ComesAt, CountsCause, HasFile, IsCausedBy, IsTextOf, OnCannotRead}
+use Rattle.ts_proxy.specs.Answers.{OnNetwork, OnQuiet, TookAt, TookText, file_name, is_long, is_unread}
+use Rattle.ts_proxy.specs.Answers.{is_unwritten}
 use Rattle.ts_proxy.specs.Ends.{EndsAt, HasCause, IsQuiet, IsStatus, IsStatusOf, RoseAt, Takes, TakesAt, bad_line}
 use Rattle.ts_proxy.specs.Ends.{cannot_read, cannot_write, done, network, out_of_memory, status_of, too_long}
 use Rattle.ts_proxy.specs.Ends.{usage}

@@ -2,7 +2,6 @@
 use Rattle.std.proofs.Common.{◌≡◌, ◌∙◌, ℕ, Bool, true, List, [], ◌∷◌, Option, None, Some, ap, inl, inr, refl, sym}
 use Rattle.std.proofs.Common.{subst}
 use Rattle.std.specs.List.{AllByRecursion}
-use Rattle.std.specs.Prelude.{⊤}
 use Rattle.ts_config.specs.Setup.{ConfigLines}
 use Rattle.ts_journal.specs.Log.{Log}
 use Rattle.ts_link.specs.Counts.{Rose}
@@ -11,8 +10,8 @@ use Rattle.ts_proxy.specs.declared.answer.Answer.{Answer}
 use Rattle.ts_proxy.specs.declared.answer.Answer.TheVariants as a
 use Rattle.ts_proxy.specs.declared.answer.NamedFile.{NamedFile}
 use Rattle.ts_proxy.specs.declared.command.GenerateTask.{GenerateTask}
-use Rattle.ts_proxy.specs.Answers.{ComesAt, HasJob, HasOutput, IsCausedBy, IsOfReading, IsOfRunning, IsOfWork}
-use Rattle.ts_proxy.specs.Answers.{IsUnfailed}
+use Rattle.ts_proxy.specs.Answers.{ComesAt, HasFile, HasJob, HasOutput, IsCausedBy, IsOfReading}
+use Rattle.ts_proxy.specs.Answers.{IsOfRunning, IsOfWork, IsUnfailed}
 use Rattle.ts_proxy.specs.Answers.{IsReadBy, IsTextOf, OnCannotRead, OnNetwork, OnQuiet, TookAt, TookText}
 use Rattle.ts_proxy.specs.Outcome.{Outcome, Usage, BadLine, Missing, Long, Text, Report, Summary, Serving}
 use Rattle.ts_proxy.specs.Outcome.{performed, worked}
