@@ -145,10 +145,10 @@ fn frame_some<C: Link, O: Upstream<C>, P: Transform + Drop>(
     step_after(relay.driven.take(count, cx))
 }
 
-/// Makes one step of the writer: where nothing waits for the client, or all of it then stands in one block, it
-/// frames a piece of what the chain gave, or the end of the body once the chain has given all; else it writes
-/// once of what waits; or it leaves a body that stopped short once the chain rests. A head that waits for its
-/// body it lets wait.
+/// Makes one step of the writer: where nothing waits for the client, or all of it then stands in one block,
+/// it frames a piece of what the chain gave, or the end of the body once the chain has given all; else it
+/// writes once of what waits; or it leaves a body that stopped short once the chain rests. A head that waits
+/// for its body it lets wait.
 pub fn write_body<C: Link, O: Upstream<C>, P: Transform + Drop>(
     core: &mut Core<C, O>,
     relay: &mut Relay<P>,

@@ -10,8 +10,8 @@ use ts_phases::Core;
 use ts_transform::Transform;
 use ts_upstream::Upstream;
 
-// Whether the whole head waits for the first bytes of its body: none was framed yet, and the reader has some at
-// hand.
+// Whether the whole head waits for the first bytes of its body: none was framed yet, and the reader has some
+// at hand.
 fn holds_head<C: Link, O: Upstream<C>, P: Transform + Drop>(
     core: &Core<C, O>,
     relay: &Relay<P>,

@@ -31,12 +31,12 @@
 //!    whose body bytes go to boundary 0, or, where nothing waits, it reads once. It feeds no byte behind the
 //!    body's end, and once the end was given, or the chain wants no more, the origin is read no more.
 //! 3. The first continuation makes one step an event: it frames one piece, of at most 32,768 bytes where
-//!    nothing waits, and else of no more than stands with all that waits in one block of 4,096 bytes; or, once
-//!    the chain has given all, it frames the end behind that, and leaves the body; or it writes once of what
-//!    waits. The head of a response goes into a block of that room. So a head and the first bytes of its body
-//!    go out in one write, and with them the end of a small body, where they are at hand: while none of the
-//!    body was framed and the reader has bytes to feed, the head waits for them (`HoldsHead`). A body that has
-//!    still to come keeps no head back.
+//!    nothing waits, and else of no more than stands with all that waits in one block of 4,096 bytes; or,
+//!    once the chain has given all, it frames the end behind that, and leaves the body; or it writes once of
+//!    what waits. The head of a response goes into a block of that room. So a head and the first bytes of its
+//!    body go out in one write, and with them the end of a small body, where they are at hand: while none of
+//!    the head was written, none of the body was framed and the reader has bytes to feed, the head waits for
+//!    them (`HoldsHead`). A body that has still to come keeps no head back.
 //! 4. Of a body that is cut or bad the reader notes which (`Relay::short`) and reads no more. The stages work
 //!    and the client's side writes until neither has anything to do. Has the chain finished by then, since a
 //!    limit was reached, the end is framed as ever; else the body is left with no end framed, and the client
