@@ -25,7 +25,7 @@ use Rattle.ts_session.specs.Finding.{Decides}
 use Rattle.ts_session.specs.FirstRequest.{first_request}
 use Rattle.ts_session.specs.Held.{StaysWhole}
 use Rattle.ts_session.specs.Reading.{MovesOn, MovesTo, Rests, Shows}
-use Rattle.ts_session.specs.Requests.{IsNext, IsRequest, IsRequestWith}
+use Rattle.ts_session.specs.Requests.{IsRequest, IsRequestWith}
 use Rattle.ts_session.specs.Session.{GoesBehind, IsNew, IsSent, IsSession, MayContinue}
 use Rattle.ts_session.specs.Session.{PollsSpan}
 use Rattle.ts_session.specs.Writing.{LeavesAll, LeavesBy, LeavesClient, WritesOn}
@@ -38,7 +38,6 @@ use Rattle.ts_session.specs.declared.response.Response.{Response}
 use Rattle.ts_session.specs.declared.response.Sending.{Sending}
 use Rattle.ts_session.specs.declared.response.Sending.TheVariants as S
 use Rattle.ts_session.proofs.Bodies.{chunks_first, first_all, known_first, request_with}
-use Rattle.ts_session.proofs.FirstRequest.{first_next}
 use Rattle.ts_session.proofs.FoundHeads.{lacks_none}
 use Rattle.ts_session.proofs.HeadWalks.{front_open, inside_going, may_begins}
 use Rattle.ts_session.proofs.HeldLines.{slice_front}
@@ -465,7 +464,7 @@ module _ {C : Type 0} (look : C → Look) (tells : Bool) (s : Course C) (sound :
             ∙ ap (λ l. given_before look s ++ l) (append_assoc placed.given s.request.held (look s.client).left))
             ∙ sym (append_assoc (look s.begun.value).before.0 (given_before look s)
             (placed.given ++ (s.request.held ++ (look s.client).left)));
-        request = subst (IsNext bytes_now) (sym all_now) (first_next bytes_now);
+        request = all_now;
         sent = taken_now.sent;
         is_sent = taken_now.is_sent;
         took = took_now;
@@ -480,6 +479,12 @@ module _ {C : Type 0} (look : C → Look) (tells : Bool) (s : Course C) (sound :
     known_whole =
         subst (λ x. StandsBy x s.request placed.given (look s.client).left)
         (rule_dropped s.response.sending s.request s.place dropped sound.rule).whole placed.stands
+
+    no_rest : request_rest look s ≡ []
+    no_rest =
+        (λ i. since (given_now i) (request_is i))
+        ∙ since_is placed.given [] (first_request bytes_now)
+        (known_first 0 s.request placed.given (look s.client).left known_whole)
 
     request_whole : IsRequest placed.given
     request_whole =
@@ -506,6 +511,7 @@ module _ {C : Type 0} (look : C → Look) (tells : Bool) (s : Course C) (sound :
           request = subst (IsRequestWith k.head) (sym given_now)
               (request_with (placed.given ++ s.request.held) k.rest placed.given s.request.held k.head k.size
               k.begins k.ends refl (omega (arith, k.long)));
+          no_left = no_rest;
           persists_is = sym k.persists_is ∙ rule.persists_is;
           within = rule.within;
           told = c.told;
@@ -541,6 +547,7 @@ module _ {C : Type 0} (look : C → Look) (tells : Bool) (s : Course C) (sound :
         (λ i. take (length (l i).given - surplus i) (l i).given) ∙ before_next in
         subst (λ b. GoesBehind (span_look look b s) (span_look look b t)) (sym tell) (record {
           request = subst IsRequest (sym given_now) request_whole;
+          no_left = no_rest;
           gave =
               (λ i. (l i).before.0 ++ before i)
               ∙ ap (λ (b : List ℕ × List ℕ). b.0 ++ (given_before look s ++ placed.given)) sound.begun

@@ -7,7 +7,8 @@ use Rattle.ts_session.specs.declared.course.Course.{Course}
 use Rattle.ts_session.specs.Kept.{AreLines, IsKept, close_line}
 use Rattle.ts_session.specs.Limits.{most_places}
 use Rattle.ts_session.specs.Lines.{HasEnded, agrees}
-use Rattle.ts_session.specs.Requests.{IsNext, IsRequest, IsRequestWith, asks_head, persists}
+use Rattle.ts_session.specs.FirstRequest.{first_request}
+use Rattle.ts_session.specs.Requests.{IsRequest, IsRequestWith, asks_head, persists}
 use Rattle.ts_session.specs.Writing.{FindsLine, HoldsMore}
 use Rattle.ts_session.specs.declared.response.Sending.{Sending}
 use Rattle.ts_session.specs.declared.response.Sending.TheVariants as S
@@ -19,13 +20,13 @@ abbrev pub IsSent : Bool → List ℕ → List ℕ → List ℕ → Type 0
 IsSent true waits response sent = IsKept response sent
 IsSent false waits response sent = response ≡ sent ++ waits
 
--- THE CONNECTION OF A SPAN: behind what it gave before stands the request of the span, and then whatever follows;
--- and behind what it took before, it took the response of the span, without its line `connection: close` where
--- it goes on. Only a front of such a line may wait, within a head that has not ended.
+-- THE CONNECTION OF A SPAN: behind what it gave before stands the request of the span, the first of the bytes
+-- there, and then whatever follows; and behind what it took before, it took the response of the span, without its
+-- line `connection: close` where it goes on. Only a front of such a line may wait, within a head that has not ended.
 pub record IsSession (span : Look) (goes_on : Bool) (waits : List ℕ) (client : Look) : Type 0 where
   pub bytes : List ℕ
   pub gave : client.before.0 ++ all_of client ≡ span.before.0 ++ bytes
-  pub request : IsNext bytes (all_of span)
+  pub request : all_of span ≡ first_request bytes
   pub sent : List ℕ
   pub is_sent : IsSent goes_on waits span.taken sent
   pub took : client.before.1 ++ client.taken ≡ span.before.1 ++ sent
@@ -38,6 +39,7 @@ pub record IsSession (span : Look) (goes_on : Bool) (waits : List ℕ) (client :
 pub record MayContinue (span : Look) (place : ℕ) : Type 0 where
   pub head : grammar.RequestHead
   pub request : IsRequestWith head span.given
+  pub no_left : span.left ≡ []
   pub persists_is : persists head ≡ true
   pub within : place < most_places
   pub told : Bool
@@ -59,6 +61,7 @@ pub record DropsLine (span : Look) (place : ℕ) (old new : Sending) (answer : P
 -- of its response, and shows none of either
 pub record GoesBehind (span next : Look) : Type 0 where
   pub request : IsRequest span.given
+  pub no_left : span.left ≡ []
   pub gave : next.before.0 ≡ span.before.0 ++ span.given
   pub sent : List ℕ
   pub is_sent : IsKept span.taken sent
