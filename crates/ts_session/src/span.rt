@@ -39,7 +39,7 @@ impl<C: Sourced> Model for Span<C> {
 
 impl<C: Sourced + Drop> Span<C> {
     /// The span of a client's first request. It takes all the memory that it and the spans behind it ever need:
-    /// the room of a head of 16,384 bytes.
+    /// the rooms of a head and of a trailer section, of 16,384 bytes each.
     pub fn make(alloc: Global, client: C) -> Result<Span<C>, NoMemory>
         ensures { IfOk result (λ s. IsNew C.look C.tells client s) }
     {
