@@ -19,9 +19,11 @@ use Rattle.ts_wire.specs.declared.body.BodyState.TheVariants as B
 use Rattle.ts_wire.specs.declared.framing.Framing.TheVariants as F
 use Rattle.ts_wire.proofs.OneBody.{chunk_text, one_body}
 use Rattle.ts_session.specs.ChunksEnd.{FindsChunksEnd, begins_with_line, chunks_end, is_body, is_content}
-use Rattle.ts_session.specs.ChunksEnd.{is_section, is_whole_body, least}
+use Rattle.ts_session.specs.ChunksEnd.{is_whole_body, least}
+use Rattle.ts_session.specs.Cuts.{is_section_with}
 use Rattle.ts_session.proofs.OneList.{one_chunked}
-use Rattle.ts_session.proofs.ChunkCuts.{begun_found, begun_there, section_found, section_there}
+use Rattle.ts_session.proofs.ChunkCuts.{begun_found, begun_there}
+use Rattle.ts_session.proofs.Cuts.{section_found, section_there}
 
 -- ---- a body, line by line
 
@@ -43,15 +45,15 @@ record IsBodyOf (total : ℕ) (bytes : List ℕ) : Type 0 where
 -- what is asked of what follows a chunk line of this size
 abbrev follows : ℕ → ℕ → ℕ → List ℕ → Bool
 follows most total size rest =
-    cond (size == 0) (nat_le (length rest) trailer_limit && is_section trailer_fields rest)
+    cond (size == 0) (nat_le (length rest) trailer_limit && is_section_with (λ fields. true) trailer_fields rest)
     (nat_le (total + size) body_limit && is_content size (is_body most (total + size)) rest)
 
 last_found : (total : ℕ) (bytes : List ℕ) (line : ChunkLine) (rest : List ℕ) → total ≤ body_limit
     → IsShortLine line → bytes ≡ print_chunk_line line ++ rest → chunk_size line ≡ 0
-    → (nat_le (length rest) trailer_limit && is_section trailer_fields rest) ≡ true → IsBodyOf total bytes
+    → (nat_le (length rest) trailer_limit && is_section_with (λ fields. true) trailer_fields rest) ≡ true → IsBodyOf total bytes
 last_found total bytes line rest fits good is zero_is found =
-    let parts = and_parts (nat_le (length rest) trailer_limit) (is_section trailer_fields rest) found in
-    let s = section_found trailer_fields rest parts.1 in
+    let parts = and_parts (nat_le (length rest) trailer_limit) (is_section_with (λ fields. true) trailer_fields rest) found in
+    let s = section_found (λ fields. true) trailer_fields rest parts.1 in
     record {
       chunks = [];
       good = All-nil IsChunk;
@@ -117,7 +119,7 @@ body_found zero total bytes fits found = absurd (cc)
 body_found (suc most) total bytes fits found =
     let b = begun_found (follows most total) bytes found in
     let size : ℕ = chunk_size b.line in
-    let last : Bool = nat_le (length b.rest) trailer_limit && is_section trailer_fields b.rest in
+    let last : Bool = nat_le (length b.rest) trailer_limit && is_section_with (λ fields. true) trailer_fields b.rest in
     let more : Bool = nat_le (total + size) body_limit && is_content size (is_body most (total + size)) b.rest in
     ⊎_elim
     (λ (none : size ≡ 0). last_found total bytes b.line b.rest fits b.good b.is none
@@ -148,11 +150,11 @@ body_there (suc most) total [] line fields last good short_line zero_is are few 
     let rest : List ℕ = print_section fields last in
     let size : ℕ = chunk_size line in
     begun_there (follows most total) line rest short_line
-    (cond-true (size == 0) (nat_le (length rest) trailer_limit && is_section trailer_fields rest)
+    (cond-true (size == 0) (nat_le (length rest) trailer_limit && is_section_with (λ fields. true) trailer_fields rest)
     (nat_le (total + size) body_limit && is_content size (is_body most (total + size)) rest)
     (eq-eqb size 0 zero_is)
-    ∙ and_from (nat_le (length rest) trailer_limit) (is_section trailer_fields rest)
-    (le-leb (length rest) trailer_limit short) (section_there trailer_fields fields last are few))
+    ∙ and_from (nat_le (length rest) trailer_limit) (is_section_with (λ fields. true) trailer_fields rest)
+    (le-leb (length rest) trailer_limit short) (section_there (λ fields. true) trailer_fields fields last are few refl))
 body_there (suc most) total (c ∷ cs) line fields last good short_line zero_is are few short fewer fits =
     let here = All-head IsChunk c cs good in
     let size : ℕ = chunk_size c.line in
@@ -173,7 +175,7 @@ body_there (suc most) total (c ∷ cs) line fields last good short_line zero_is 
     let low : total + size ≤ body_limit = omega (arith, sum) in
     let whole : begins_with_line (follows most total) (print_chunk_line c.line ++ rest) ≡ true =
     begun_there (follows most total) c.line rest here.line
-    (cond-false (size == 0) (nat_le (length rest) trailer_limit && is_section trailer_fields rest)
+    (cond-false (size == 0) (nat_le (length rest) trailer_limit && is_section_with (λ fields. true) trailer_fields rest)
     (nat_le (total + size) body_limit && is_content size (is_body most (total + size)) rest)
     (ne_eqb size 0 some)
     ∙ and_from (nat_le (total + size) body_limit) (is_content size (is_body most (total + size)) rest)
@@ -191,12 +193,12 @@ body_there (suc most) total (c ∷ cs) line fields last good short_line zero_is 
 -- ---- the whole
 
 -- a body that has ended, with nothing behind it
-record HasEndedBody (bytes : List ℕ) : Type 0 where
-  body : List ℕ
-  ended : IsEndedChunked bytes body
-  over : ended.rest ≡ []
+pub record HasEndedBody (bytes : List ℕ) : Type 0 where
+  pub body : List ℕ
+  pub ended : IsEndedChunked bytes body
+  pub over : ended.rest ≡ []
 
-whole_found : (bytes : List ℕ) → is_whole_body bytes ≡ true → HasEndedBody bytes
+pub whole_found : (bytes : List ℕ) → is_whole_body bytes ≡ true → HasEndedBody bytes
 whole_found bytes found =
     let b = body_found (length bytes) 0 bytes (omega arith) found in
     let text : List ℕ = print_section b.fields b.last in
@@ -227,7 +229,7 @@ whole_found bytes found =
     }
 
 -- a chunk line has some bytes
-line_some : (l : ChunkLine) → IsChunkLine l → 0 < length (print_chunk_line l)
+pub line_some : (l : ChunkLine) → IsChunkLine l → 0 < length (print_chunk_line l)
 unfolding print_chunk_line
 line_some l good = omega (arith, length-append (l.digits ++ l.pad ++ print_extension l.extension) crlf_bytes)
 
@@ -242,7 +244,7 @@ chunks_count (c ∷ cs) =
       length-append c.content crlf_bytes,
     )
 
-whole_there : (bytes body : List ℕ) (e : IsEndedChunked bytes body) → e.rest ≡ [] → is_whole_body bytes ≡ true
+pub whole_there : (bytes body : List ℕ) (e : IsEndedChunked bytes body) → e.rest ≡ [] → is_whole_body bytes ≡ true
 whole_there bytes body e over =
     let t = e.trailer in
     let section : List ℕ = print_section e.fields e.last in
@@ -264,7 +266,7 @@ whole_there bytes body e over =
 
 -- ---- the least one
 
-least_found : (test : ℕ → Bool) (from count n : ℕ) → least test from count ≡ Some n
+pub least_found : (test : ℕ → Bool) (from count n : ℕ) → least test from count ≡ Some n
     → (n < from + count) × (test n ≡ true)
 least_found test from zero n is = absurd (cc)
 least_found test from (suc count) n is =
@@ -282,7 +284,7 @@ least_found test from (suc count) n is =
     (low, later.1))
     (cases_Bool (test from))
 
-least_there : (test : ℕ → Bool) (from count n : ℕ) → from ≤ n → n < from + count → test n ≡ true
+pub least_there : (test : ℕ → Bool) (from count n : ℕ) → from ≤ n → n < from + count → test n ≡ true
     → ((m : ℕ) → m < n → test m ≡ false) → least test from count ≡ Some n
 least_there test from zero n low high passes before = absurd (omega (arith, low, high))
 least_there test from (suc count) n low high passes before =
@@ -297,13 +299,13 @@ least_there test from (suc count) n low high passes before =
     ∙ least_there test (from + 1) count n on end passes before)
     (cases_eq from n)
 
-least_none : (test : ℕ → Bool) (from count : ℕ) → ((m : ℕ) → test m ≡ false) → least test from count ≡ None
+pub least_none : (test : ℕ → Bool) (from count : ℕ) → ((m : ℕ) → test m ≡ false) → least test from count ≡ None
 least_none test from zero never = refl
 least_none test from (suc count) never =
     cond-false (test from) (Some from) (least test (from + 1) count) (never from)
     ∙ least_none test (from + 1) count never
 
-not_true : (b : Bool) → (b ≡ true → ⊥) → b ≡ false
+pub not_true : (b : Bool) → (b ≡ true → ⊥) → b ≡ false
 not_true true never = absurd (never refl)
 not_true false never = refl
 
@@ -336,7 +338,7 @@ whole_at bytes more body e over =
         omega (arith, below, ap length none, length-drop m bytes)
 
 -- a body that has ended stays so, whatever follows
-ended_on : (bytes more body : List ℕ) → IsEndedChunked bytes body → IsEndedChunked (bytes ++ more) body
+pub ended_on : (bytes more body : List ℕ) → IsEndedChunked bytes body → IsEndedChunked (bytes ++ more) body
 ended_on bytes more body e =
     let t = e.trailer in
     record {

@@ -1,19 +1,19 @@
 -- Where a span drops the line, by what is seen of it.
 use Rattle.std.proofs.Common.{◌≡◌, ℕ, ◌<◌, Bool, true, List, ◌++◌, length, refl, sym, ap, subst, ◌∙◌, arith}
 use Rattle.std.proofs.Common.{length-append}
-use Rattle.std.specs.Prelude.{◌≢◌, ◌&&◌, nat_lt}
+use Rattle.std.specs.Prelude.{◌&&◌, Some, None, nat_lt}
 use Rattle.std.proofs.lemmas.Bool.{and_from, lt-ltb}
 use Rattle.httparse.specs.Grammar as grammar
 use Rattle.httparse.specs.Grammar.{print_request}
 use Rattle.ts_link.specs.Link.{Look}
 use Rattle.ts_link.specs.declared.link.Put.{Put}
 use Rattle.ts_wire.specs.RequestEnds.{end_of_request}
-use Rattle.ts_wire.specs.declared.ends.RequestEnd.TheVariants as E
 use Rattle.ts_wire.proofs.OneRequest.{one_request}
-use Rattle.ts_session.specs.Course.{IsKnown, IsSound, StandsBy, is_whole, may_go_on, request_given, response_written}
+use Rattle.ts_session.specs.ChunksEnd.{chunks_end}
+use Rattle.ts_session.specs.Course.{HasBodyOf, IsInChunks, IsKnown, IsSound, StandsBy, is_whole, may_go_on, request_given, response_written}
 use Rattle.ts_session.specs.Course.{span_look, taken_before}
 use Rattle.ts_session.specs.Limits.{most_places}
-use Rattle.ts_session.specs.Requests.{GivesAll, IsBodyBy, IsRequestWith, asks_head, chunks, no_head, persists, unknown}
+use Rattle.ts_session.specs.Requests.{IsBodyBy, IsRequest, IsRequestWith, asks_head, persists}
 use Rattle.ts_session.specs.Session.{DropsLine}
 use Rattle.ts_session.specs.Writing.{DropsOn, FindsLine}
 use Rattle.ts_session.specs.declared.course.Course.{Course}
@@ -21,6 +21,8 @@ use Rattle.ts_session.specs.declared.request.Reading.{Reading}
 use Rattle.ts_session.specs.declared.request.Reading.TheVariants as R
 use Rattle.ts_session.specs.declared.request.Request.{Request}
 use Rattle.ts_session.specs.declared.response.Response.{Response}
+use Rattle.ts_session.proofs.Bodies.{all_lacks, amid_none, body_long}
+use Rattle.ts_session.proofs.ChunksEnd.{finds_chunks_end}
 use Rattle.ts_session.proofs.Ends.{given_now, placed}
 use Rattle.ts_session.proofs.FoundHeads.{begins_more, begins_some}
 
@@ -30,15 +32,20 @@ record IsGivenWhole (head : grammar.RequestHead) (r : Request) : Type 0 where
   persists_is : r.persists ≡ persists head
   asks_is : r.asks_head ≡ asks_head head
 
-module _ (head : grammar.RequestHead) (given : List ℕ) (request : IsRequestWith head given)
-    (sized : end_of_request head ≢ E.Chunked) where
+module _ (head : grammar.RequestHead) (given : List ℕ) (request : IsRequestWith head given) where
+  whole : IsRequest given
+  whole = record { head = head; whole = request }
+
   -- it is given whole where where it ends is known
   known_whole : (n : ℕ) (r : Request) → r.reading ≡ R.Known n → IsKnown n r given → IsGivenWhole head r
   known_whole n r is k =
-      let same = (one_request (given ++ r.held) k.head head k.rest (request.body ++ r.held) k.begins
-      (begins_more given r.held head request.body request.begins)).0 in
-      let ends : end_of_request head ≡ E.Sized k.size = ap end_of_request (sym same) ∙ k.ends in
-      let long : length request.body ≡ k.size = subst (λ e. IsBodyBy e request.body) ends request.ends in
+      let one = one_request (given ++ r.held) k.head head k.rest (request.body ++ r.held) k.begins
+      (begins_more given r.held head request.body request.begins) in
+      let same = one.0 in
+      let long : length request.body ≡ k.size =
+      body_long (end_of_request k.head) k.size request.body r.held
+      (subst (HasBodyOf (end_of_request k.head) k.size) one.1 k.ends)
+      (subst (λ h. IsBodyBy (end_of_request h) request.body) (sym same) request.ends) in
       let none : n ≡ 0 = omega (
         arith,
         k.long,
@@ -53,37 +60,37 @@ module _ (head : grammar.RequestHead) (given : List ℕ) (request : IsRequestWit
         asks_is = k.asks_is ∙ ap asks_head same;
       }
 
-  -- and to one of which all belongs that is left it does not come
-  never_all : (more : List ℕ) → GivesAll (given ++ more) → ⊥
-  never_all more (no_head lacks) =
-      lacks head (request.body ++ more) (begins_more given more head request.body request.begins)
-  never_all more (unknown h rest begins ends) =
-      let same = (one_request (given ++ more) h head rest (request.body ++ more) begins
-      (begins_more given more head request.body request.begins)).0 in
-      subst (λ e. IsBodyBy e request.body) (ap end_of_request (sym same) ∙ ends) request.ends
-  never_all more (chunks h rest begins ends) =
-      let same = (one_request (given ++ more) h head rest (request.body ++ more) begins
-      (begins_more given more head request.body request.begins)).0 in
-      sized (ap end_of_request (sym same) ∙ ends)
+  -- one whose body in chunks goes on is not
+  never_amid : (r : Request) → IsInChunks r (given ++ r.held) → ⊥
+  never_amid r c =
+      let one = one_request (given ++ r.held) c.head head c.rest (request.body ++ r.held) c.begins
+      (begins_more given r.held head request.body request.begins) in
+      let e = subst (λ e. IsBodyBy e request.body) (ap end_of_request (sym one.0) ∙ c.ends) request.ends in
+      let found : chunks_end c.rest ≡ Some (length request.body) =
+      ap chunks_end one.1 ∙ finds_chunks_end.whole request.body r.held e.0 e.1 e.2 in
+      let wrong : None ≡ Some (length request.body) = sym (amid_none c.rest r.chunks c.amid) ∙ found in
+      absurd (cc)
 
   given_whole : (x : Reading) (r : Request) (left : List ℕ) → r.reading ≡ x → StandsBy x r given left
       → IsGivenWhole head r
   given_whole R.Head r left is none =
       absurd (omega (arith, begins_some given head request.body request.begins, ap length none))
   given_whole (R.Known n) r left is k = known_whole n r is k
-  given_whole R.Open r left is all = absurd (never_all (r.held ++ left) all)
+  given_whole R.Chunks r left is c = absurd (never_amid r c)
+  given_whole R.Open r left is all =
+      absurd (all_lacks (given ++ (r.held ++ left)) all given (r.held ++ left) refl whole)
 
 module _ {C : Type 0} (look : C → Look) (tells may : Bool) (s : Course C) (p : Response) (answer : Put)
     (piece : List ℕ) (sound : IsSound look tells s) (may_is : may ≡ may_go_on s.request s.place)
     (d : DropsOn tells may s.request.asks_head s.response p (look s.cut.value) (look s.client) answer piece)
     (tell : tells ≡ true) where
   finds_now : (head : grammar.RequestHead) → IsRequestWith head (request_given look s)
-      → end_of_request head ≢ E.Chunked → persists head ≡ true → s.place < most_places
+      → persists head ≡ true → s.place < most_places
       → FindsLine (asks_head head) (response_written look s) p.sending answer piece
-  finds_now head request sized goes within =
+  finds_now head request goes within =
       let at = placed look tells s sound tell in
       let whole = given_whole head at.given
-      (subst (IsRequestWith head) (given_now look tells s sound tell) request) sized s.request.reading s.request
+      (subst (IsRequestWith head) (given_now look tells s sound tell) request) s.request.reading s.request
       (look s.client).left refl at.stands in
       let may_go : may_go_on s.request s.place ≡ true =
       and_from (is_whole s.request.reading) (s.request.persists && nat_lt s.place most_places)

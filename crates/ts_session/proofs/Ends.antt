@@ -1,36 +1,32 @@
 -- What a span comes to: each of its calls is one of a link, and at its end its client is that of the session.
 use Rattle.std.proofs.Common.{◌≡◌, inl, inr, ℕ, ◌+◌, ◌-◌, ◌<◌, ◌≤◌, Bool, true, false, ◌||◌, List, [], ◌++◌}
-use Rattle.std.proofs.Common.{length, take, drop, refl, sym, ap, subst, ⊎_elim, ◌∙◌, arith, append_assoc}
-use Rattle.std.proofs.Common.{length-append, take-append-drop}
+use Rattle.std.proofs.Common.{length, take, refl, sym, ap, subst, ⊎_elim, ◌∙◌, arith, append_assoc}
 use Rattle.std.proofs.Common.{None}
 use Rattle.std.specs.Prelude.{◌&&◌, nat_lt}
 use Rattle.std.specs.List.{slice_range}
-use Rattle.std.proofs.lemmas.Bool.{and_parts, cases_lt, eqb-true, ltb-true, or_cases}
-use Rattle.std.proofs.lemmas.List.{append-nil, length-drop, length-take-le, take_all}
-use Rattle.ts_lists.proofs.Fronts.{front_was_there, rest_by_length}
-use Rattle.httparse.specs.Grammar as grammar
-use Rattle.httparse.specs.Grammar.{print_request}
+use Rattle.std.proofs.lemmas.Bool.{and_parts, eqb-true, ltb-true, or_cases}
+use Rattle.std.proofs.lemmas.List.{append-nil, take_all}
+use Rattle.ts_lists.proofs.Fronts.{rest_by_length}
 use Rattle.ts_link.specs.Counts.{one_more}
-use Rattle.ts_link.specs.Link.{Calls, GivesMore, Lacks, Look, Reads, TakesMore, Writes, all_of}
+use Rattle.ts_link.specs.Link.{Calls, GivesMore, Lacks, Look, MayReplace, Reads, TakesMore, Writes, all_of}
 use Rattle.ts_link.specs.LinkAnswers.{EndsWell, count_got, count_put, got_again, got_failed, put_again, writes_after}
 use Rattle.ts_link.specs.declared.link.Got.{Got}
 use Rattle.ts_link.specs.declared.link.Put.{Put}
 use Rattle.ts_link.specs.declared.link.Put.TheVariants as P
-use Rattle.ts_wire.specs.Heads.{BeginsWithRequest}
-use Rattle.ts_wire.specs.RequestEnds.{end_of_request}
-use Rattle.ts_wire.specs.declared.ends.RequestEnd.TheVariants as E
-use Rattle.ts_session.specs.Course.{EndsEmpty, HoldsHead, IsOwing, IsWithin, fresh_request, has_found, is_head}
+use Rattle.ts_session.specs.Course.{HoldsHead, IsOwing, IsWithin, fresh_request, has_found}
 use Rattle.ts_session.specs.Course.{is_whole, may_go_on, request_given, request_rest, response_written, told, waiting}
 use Rattle.ts_session.specs.Course.{IsKnown, IsPlaced, IsSound, MayGoOn, RespondsBy}
-use Rattle.ts_session.specs.Course.{StandsBy, fresh_response, given_before, given_on, is_dropped, left_by}
-use Rattle.ts_session.specs.Course.{since, span_look, taken_before, written_by}
+use Rattle.ts_session.specs.Course.{StandsBy, fresh_response, given_before, given_on, is_dropped, request_of}
+use Rattle.ts_session.specs.Course.{request_through, since, span_look, taken_before, written_by}
 use Rattle.ts_session.specs.Kept.{IsKept, close_line}
 use Rattle.ts_session.specs.Limits.{most_places}
 use Rattle.ts_session.specs.Lines.{HasEnded, IsCut, may_drop_at}
 use Rattle.ts_session.specs.Finding.{Decides}
-use Rattle.ts_session.specs.Reading.{IsUnread, MovesOn, MovesTo, Rests, Shows}
-use Rattle.ts_session.specs.Requests.{IsBodyBy, IsRequest, IsRequestWith}
-use Rattle.ts_session.specs.Session.{GoesBehind, IsNew, IsNext, IsSent, IsSession, MayContinue}
+use Rattle.ts_session.specs.FirstRequest.{first_request}
+use Rattle.ts_session.specs.Held.{StaysWhole}
+use Rattle.ts_session.specs.Reading.{MovesOn, MovesTo, Rests, Shows}
+use Rattle.ts_session.specs.Requests.{IsRequest, IsRequestWith}
+use Rattle.ts_session.specs.Session.{GoesBehind, IsNew, IsSent, IsSession, MayContinue}
 use Rattle.ts_session.specs.Session.{PollsSpan}
 use Rattle.ts_session.specs.Writing.{LeavesAll, LeavesBy, LeavesClient, WritesOn}
 use Rattle.ts_session.specs.declared.course.Course.{Course}
@@ -41,14 +37,14 @@ use Rattle.ts_session.specs.declared.request.Request.{Request}
 use Rattle.ts_session.specs.declared.response.Response.{Response}
 use Rattle.ts_session.specs.declared.response.Sending.{Sending}
 use Rattle.ts_session.specs.declared.response.Sending.TheVariants as S
-use Rattle.ts_session.proofs.FoundHeads.{begins_more, begins_some, lacks_none}
-use Rattle.ts_session.proofs.Giving.{decided}
+use Rattle.ts_session.proofs.Bodies.{chunks_first, first_all, known_first, request_with}
+use Rattle.ts_session.proofs.FoundHeads.{lacks_none}
 use Rattle.ts_session.proofs.HeadWalks.{front_open, inside_going, may_begins}
 use Rattle.ts_session.proofs.HeldLines.{slice_front}
 use Rattle.ts_session.proofs.LineFronts.{new_shows}
-use Rattle.ts_session.proofs.LinkCalls.{agains_none}
-use Rattle.ts_session.proofs.Parts.{given_is, since_is}
-use Rattle.ts_session.proofs.Writes.{request_left, request_stays}
+use Rattle.ts_session.proofs.LinkCalls.{agains_none, replace_none}
+use Rattle.ts_session.proofs.Parts.{asked_is, given_is, since_is}
+use Rattle.ts_session.proofs.Writes.{request_stays}
 
 -- ---- the rule
 
@@ -61,6 +57,7 @@ pub record GoesOnBehind (r : Request) (place : ℕ) : Type 0 where
 whole_is : (x : Reading) → is_whole x ≡ true → x ≡ R.Known 0
 whole_is R.Head is = absurd (cc)
 whole_is (R.Known n) is = ap R.Known (eqb-true n 0 is)
+whole_is R.Chunks is = absurd (cc)
 whole_is R.Open is = absurd (cc)
 
 goes_on_behind : (r : Request) (place : ℕ) → may_go_on r place ≡ true → GoesOnBehind r place
@@ -132,7 +129,7 @@ module _ {C : Type 0} (look : C → Look) (tells : Bool) (s : Course C) (c : C) 
   pub moved_calls : Calls (span_look look tells s)
       (span_look look tells (record s { client = c; request = r; reads = reads })) failed waited
   moved_calls = record {
-    source = ap (since (given_before look s)) moved.moves.calls.source;
+    source = ap (λ bytes. first_request (since (given_before look s) bytes)) moved.moves.calls.source;
     name = moved.moves.calls.name;
     plan = refl;
     carried = moved.moves.calls.carried;
@@ -170,8 +167,9 @@ reads_span look tells s c r reads answer into sound shows counted = record {
   sure = λ sure. absurd sure;
   told = moved_told look tells s c r reads (got_failed answer) (got_again answer)
       (take (count_got answer) into) sound shows.moves;
-  ends = λ tell. subst (λ b. EndsWell answer (told b (left_by r.reading (r.held ++ (look c).left)))) (sym tell)
-      (shows.ends tell);
+  ends = λ tell. subst (λ b. EndsWell answer (told b
+      (request_through (given_before look s) r (look c)).left)) (sym tell)
+      (shows.ends (given_before look s) sound.request tell);
 }
 
 -- ---- a poll
@@ -205,29 +203,33 @@ module _ {C : Type 0} (look : C → Look) (tells may : Bool) (s : Course C) (c :
       (λ (so : may ≡ true). sym may_is ∙ so)
       (or_cases (has_found s.response.sending) may (w.found found))
 
-  pub written_sound : IsWithin p.sending → IsSound look tells written
-  written_sound within = record {
+  pub written_sound : StaysWhole tells (look s.client) (look c) → IsWithin p.sending → IsSound look tells written
+  written_sound whole within = record {
     request = request_stays tells (given_before look s) s.request (look s.client) (look c) w.leaves.given
-        w.leaves.left sound.request;
+        w.leaves.source whole sound.request;
     response = (w.on (taken_before look s) sound.response).holds;
     within = within;
     rule = rule_on;
     begun = w.leaves.before ∙ sound.begun;
   }
 
+  given_same : (look c).given ≡ (look s.client).given → request_given look written ≡ request_given look s
+  given_same = ap (λ g. since (given_before look s) (given_on s.request.held g))
+
+  request_same : (look c).source ≡ (look s.client).source → request_of look written ≡ request_of look s
+  request_same = ap (λ bytes. first_request (since (given_before look s) bytes))
+
   -- where some of what was owed may be out, what is seen of the client's bytes is as it was
   paid_lacks : has_found s.response.sending ≡ true → LeavesBy tells (look s.client) (look c) false false
       → (tells ≡ true → response_written look written ≡ response_written look s ++ []) → writes ≡ s.writes
       → span_look look tells written ≡ span_look look tells s
   paid_lacks found leaves same counted =
-      let whole = (goes_on_behind s.request s.place (sound.rule found)).whole in
       let given : told tells (request_given look written) ≡ told tells (request_given look s) =
       told_same tells (request_given look written) (request_given look s)
-      (λ tell. ap (λ g. since (given_before look s) (given_on s.request.held g)) (leaves.given tell)) in
+      (λ tell. given_same (leaves.given tell)) in
       let left : told tells (request_rest look written) ≡ told tells (request_rest look s) =
       told_same tells (request_rest look written) (request_rest look s)
-      (λ tell. ap (λ x. left_by x (s.request.held ++ (look c).left)) whole
-      ∙ ap (λ x. left_by x (s.request.held ++ (look s.client).left)) (sym whole)) in
+      (λ tell i. since (given_same (leaves.given tell) i) (request_same leaves.source i)) in
       let taken : told tells (response_written look written) ≡ told tells (response_written look s) =
       told_same tells (response_written look written) (response_written look s)
       (λ tell. same tell ∙ append-nil (response_written look s)) in
@@ -235,7 +237,7 @@ module _ {C : Type 0} (look : C → Look) (tells may : Bool) (s : Course C) (c :
         given = given i;
         left = left i;
         taken = taken i;
-        source = since (given_before look s) (leaves.source i);
+        source = request_same leaves.source i;
         name = leaves.name i;
         reads = s.reads;
         writes = counted i;
@@ -256,10 +258,11 @@ module _ {C : Type 0} (look : C → Look) (tells may : Bool) (s : Course C) (c :
   all_lacks same_p same_cut same_l counted =
       λ i. record (same_l i) {
         given = told tells (since (given_before look s) (given_on s.request.held (same_l i).given));
-        left = told tells (left_by s.request.reading (s.request.held ++ (same_l i).left));
+        left = told tells (since (since (given_before look s) (given_on s.request.held (same_l i).given))
+            (first_request (since (given_before look s) (same_l i).source)));
         taken = told tells (written_by (same_p i).sending (taken_before look s) (same_cut i).taken
             (same_l i).taken);
-        source = since (given_before look s) (same_l i).source;
+        source = first_request (since (given_before look s) (same_l i).source);
         reads = s.reads;
         writes = counted i;
         agains = None;
@@ -291,7 +294,7 @@ module _ {C : Type 0} (look : C → Look) (tells may : Bool) (s : Course C) (c :
     takes = w.takes;
     once = record { reads = refl; writes = counted };
     calls = record {
-      source = ap (since (given_before look s)) w.leaves.source;
+      source = request_same w.leaves.source;
       name = w.leaves.name;
       plan = refl;
       carried = w.leaves.carried;
@@ -307,54 +310,27 @@ module _ {C : Type 0} (look : C → Look) (tells may : Bool) (s : Course C) (c :
         (take (count_put answer) piece)) (sym tell) (record {
           taken = wrote tell;
           within = λ within. tt;
-          given = ap (λ g. since (given_before look s) (given_on s.request.held g)) (w.leaves.given tell);
-          left = request_left tells (given_before look s) s.request (look s.client) (look c) w.leaves.given
-              w.leaves.left sound.request tell;
+          given = given_same (w.leaves.given tell);
+          left = subst (MayReplace (request_given look s) (request_rest look s))
+              (λ i. since (sym (given_same (w.leaves.given tell)) i) (sym (request_same w.leaves.source) i))
+              (replace_none (request_given look s) (request_rest look s));
         });
   }
 
 -- ---- the request at its end
 
--- a front of bytes that begin with a head, as long as its request
-request_with : (all rest front behind : List ℕ) (h : grammar.RequestHead) (size : ℕ)
-    → BeginsWithRequest all h rest → end_of_request h ≡ E.Sized size → all ≡ front ++ behind
-    → length front ≡ length (print_request h) + size → IsRequestWith h front
-request_with all rest front behind h size begins ends is long =
-    let parts : front ≡ print_request h ++ drop (length (print_request h)) front =
-    front_was_there front behind (print_request h) rest (sym is ∙ begins.reads.1) (omega (arith, long)) in
-    record {
-      body = drop (length (print_request h)) front;
-      begins = record { reads = (begins.reads.0, parts); short = begins.short; few = begins.few };
-      ends = subst (λ e. IsBodyBy e (drop (length (print_request h)) front)) (sym ends)
-          (omega (arith, long, length-drop (length (print_request h)) front));
-    }
-
-whole_request : (all rest front behind : List ℕ) (h : grammar.RequestHead) (size : ℕ)
-    → BeginsWithRequest all h rest → end_of_request h ≡ E.Sized size → all ≡ front ++ behind
-    → length front ≡ length (print_request h) + size → IsRequest front
-whole_request all rest front behind h size begins ends is long =
-    record { head = h; whole = request_with all rest front behind h size begins ends is long }
-
-next_request : (x : Reading) (r : Request) (given left : List ℕ) → StandsBy x r given left
-    → IsNext (given ++ (r.held ++ left)) (given ++ left_by x (r.held ++ left))
-next_request R.Head r given left stands = inl refl
-next_request R.Open r given left stands = inl refl
-next_request (R.Known n) r given left k =
-    ⊎_elim
-    (λ (short : length rest < n). inl (ap (λ l. given ++ l) (take_all n rest (omega (arith, short)))))
-    (λ (long : n ≤ length rest). inr (
-      drop n rest,
-      ap (λ l. given ++ l) (sym (take-append-drop n rest)) ∙ sym (append_assoc given (take n rest) (drop n rest)),
-      whole_request ((given ++ r.held) ++ left) (k.rest ++ left) (given ++ take n rest) (drop n rest) k.head
-          k.size (begins_more (given ++ r.held) left k.head k.rest k.begins) k.ends
-          (append_assoc given r.held left ∙ ap (λ l. given ++ l) (sym (take-append-drop n rest))
-          ∙ sym (append_assoc given (take n rest) (drop n rest)))
-          (omega (arith, k.long, length-append given (take n rest), length-take-le n rest long)),
-    ))
-    (cases_lt (length rest) n)
-  where
-    rest : List ℕ
-    rest = r.held ++ left
+-- its request begins with what was given of it
+front_of : (x : Reading) (r : Request) (given left : List ℕ) → StandsBy x r given left
+    → (more : List ℕ) × (first_request (given ++ (r.held ++ left)) ≡ given ++ more)
+front_of R.Head r given left none =
+    let all : List ℕ = first_request (given ++ (r.held ++ left)) in (all, ap (λ g. g ++ all) (sym none))
+front_of (R.Known n) r given left k = (take n (r.held ++ left), known_first n r given left k)
+front_of R.Chunks r given left c =
+    let first = chunks_first r (given ++ r.held) left c in (
+      r.held ++ first.0,
+      ap first_request (sym (append_assoc given r.held left)) ∙ first.1 ∙ append_assoc given r.held first.0,
+    )
+front_of R.Open r given left all = (r.held ++ left, first_all (given ++ (r.held ++ left)) all)
 
 -- ---- the response at its end
 
@@ -453,11 +429,34 @@ module _ {C : Type 0} (look : C → Look) (tells : Bool) (s : Course C) (sound :
       (λ i. (sound.begun i).1 ++ taken_now.took i)
       ∙ sym (append_assoc (look s.begun.value).before.1 (taken_before look s) taken_now.sent)
 
+  -- what the client gives from where the request begins
+  abbrev bytes_now : List ℕ
+  bytes_now = placed.given ++ (s.request.held ++ (look s.client).left)
+
+  request_is : request_of look s ≡ first_request (placed.given ++ (s.request.held ++ (look s.client).left))
+  request_is =
+      ap first_request (asked_is (given_before look s) placed.given s.request.held (look s.client) placed.placed
+      placed.whole)
+
+  all_now : request_given look s ++ request_rest look s
+      ≡ first_request (placed.given ++ (s.request.held ++ (look s.client).left))
+  all_now =
+      let front = front_of s.request.reading s.request placed.given (look s.client).left placed.stands in
+      (λ i. given_now i ++ since (given_now i) (request_is i))
+      ∙ ap (λ t. placed.given ++ t) (since_is placed.given front.0 (first_request bytes_now) front.1)
+      ∙ sym front.1
+
+  -- what it gave and may still give is the request
+  pub gives_request : all_of (span_look look tells s) ≡ (span_look look tells s).source
+  gives_request =
+      subst (λ b. all_of (span_look look b s) ≡ (span_look look b s).source) (sym tell)
+      (all_now ∙ sym request_is)
+
   pub is_session : IsSession (span_look look tells s) (is_dropped s.response.sending)
       (waiting s.response.sending) (look s.client)
   is_session = subst (λ b. IsSession (span_look look b s) (is_dropped s.response.sending)
       (waiting s.response.sending) (look s.client)) (sym tell) (record {
-        bytes = placed.given ++ (s.request.held ++ (look s.client).left);
+        bytes = bytes_now;
         gave =
             (λ i. (sound.begun i).0 ++ (placed.placed i ++ (look s.client).left))
             ∙ ap (λ l. (look s.begun.value).before.0 ++ l)
@@ -465,30 +464,13 @@ module _ {C : Type 0} (look : C → Look) (tells : Bool) (s : Course C) (sound :
             ∙ ap (λ l. given_before look s ++ l) (append_assoc placed.given s.request.held (look s.client).left))
             ∙ sym (append_assoc (look s.begun.value).before.0 (given_before look s)
             (placed.given ++ (s.request.held ++ (look s.client).left)));
-        request = subst (λ g. IsNext (placed.given ++ (s.request.held ++ (look s.client).left))
-            (g ++ left_by s.request.reading (s.request.held ++ (look s.client).left))) (sym given_now)
-            (next_request s.request.reading s.request placed.given (look s.client).left placed.stands);
+        request = all_now;
         sent = taken_now.sent;
         is_sent = taken_now.is_sent;
         took = took_now;
         of_line = taken_now.of_line;
         within_head = taken_now.within_head;
       })
-
-  -- its source begins with its request, or is it
-  pub in_source : all_of (look s.client) ≡ (look s.client).source
-      → IsNext (span_look look tells s).source (all_of (span_look look tells s))
-  in_source known =
-      let bytes : List ℕ = placed.given ++ (s.request.held ++ (look s.client).left) in
-      let is : since (given_before look s) (look s.client).source ≡ bytes =
-      since_is (given_before look s) bytes (look s.client).source
-      (sym known ∙ ap (λ g. g ++ (look s.client).left) placed.placed
-      ∙ append_assoc (given_before look s) (placed.given ++ s.request.held) (look s.client).left
-      ∙ ap (λ t. given_before look s ++ t) (append_assoc placed.given s.request.held (look s.client).left)) in
-      subst (λ b. IsNext (span_look look b s).source (all_of (span_look look b s))) (sym tell)
-      (subst (λ t. IsNext t (request_given look s ++ request_rest look s)) (sym is)
-      (subst (λ g. IsNext bytes (g ++ left_by s.request.reading (s.request.held ++ (look s.client).left)))
-      (sym given_now) (next_request s.request.reading s.request placed.given (look s.client).left placed.stands)))
 
   -- ---- the next request
 
@@ -498,11 +480,20 @@ module _ {C : Type 0} (look : C → Look) (tells : Bool) (s : Course C) (sound :
         subst (λ x. StandsBy x s.request placed.given (look s.client).left)
         (rule_dropped s.response.sending s.request s.place dropped sound.rule).whole placed.stands
 
+    no_rest : request_rest look s ≡ []
+    no_rest =
+        (λ i. since (given_now i) (request_is i))
+        ∙ since_is placed.given [] (first_request bytes_now)
+        (known_first 0 s.request placed.given (look s.client).left known_whole)
+
     request_whole : IsRequest placed.given
     request_whole =
         let k = known_whole in
-        whole_request (placed.given ++ s.request.held) k.rest placed.given s.request.held k.head k.size k.begins
-        k.ends refl (omega (arith, k.long))
+        record {
+          head = k.head;
+          whole = request_with (placed.given ++ s.request.held) k.rest placed.given s.request.held k.head k.size
+              k.begins k.ends refl (omega (arith, k.long));
+        }
 
     cut_now : IsCut s.request.asks_head (taken_before look s) (look s.cut.value).taken (look s.client).taken
     cut_now =
@@ -520,6 +511,7 @@ module _ {C : Type 0} (look : C → Look) (tells : Bool) (s : Course C) (sound :
           request = subst (IsRequestWith k.head) (sym given_now)
               (request_with (placed.given ++ s.request.held) k.rest placed.given s.request.held k.head k.size
               k.begins k.ends refl (omega (arith, k.long)));
+          no_left = no_rest;
           persists_is = sym k.persists_is ∙ rule.persists_is;
           within = rule.within;
           told = c.told;
@@ -555,6 +547,7 @@ module _ {C : Type 0} (look : C → Look) (tells : Bool) (s : Course C) (sound :
         (λ i. take (length (l i).given - surplus i) (l i).given) ∙ before_next in
         subst (λ b. GoesBehind (span_look look b s) (span_look look b t)) (sym tell) (record {
           request = subst IsRequest (sym given_now) request_whole;
+          no_left = no_rest;
           gave =
               (λ i. (l i).before.0 ++ before i)
               ∙ ap (λ (b : List ℕ × List ℕ). b.0 ++ (given_before look s ++ placed.given)) sound.begun
@@ -592,19 +585,18 @@ module _ {C : Type 0} (look : C → Look) (tells : Bool) (t : Course C) (client 
   -- a span that begins is sound, where what came stands before what is held
   begins_sound : HoldsHead t.request.reading t.request.held
       → (tells ≡ true → (look client).given ≡ given_before look t ++ t.request.held)
+      → (tells ≡ true → all_of (look client) ≡ (look client).source)
       → StandsBy t.request.reading t.request [] (look client).left
-      → ((before : List ℕ) → (look client).given ≡ before ++ t.request.held
-      → EndsEmpty t.request.reading (look client))
       → IsSound look tells t
-  begins_sound head came stands empty = record {
+  begins_sound head came whole stands = record {
     request = record {
       head = head;
       link = λ tell. subst (λ (k : C). IsPlaced (given_before look t) t.request (look k)) (sym client_is)
           (record {
             given = [];
             placed = came tell;
+            whole = whole tell;
             stands = stands;
-            empty = empty (given_before look t) (came tell);
           });
     };
     response = λ tell. fresh_responds;
@@ -617,20 +609,19 @@ module _ {C : Type 0} (look : C → Look) (tells : Bool) (t : Course C) (client 
 -- the first one
 module _ {C : Type 0} (look : C → Look) (tells : Bool) (t : Course C) (client : C)
     (client_is : t.client ≡ client) (begun_is : t.begun.value ≡ client) (surplus_is : t.surplus ≡ 0)
-    (request_is : t.request ≡ fresh_request []) (response_is : t.response ≡ fresh_response) where
+    (request_is : t.request ≡ fresh_request t.request.chunks []) (response_is : t.response ≡ fresh_response) where
   given_first : given_before look t ≡ (look client).given
   given_first =
       (λ i. take (length (look (begun_is i)).given - surplus_is i) (look (begun_is i)).given)
       ∙ take_all (length (look client).given - 0) (look client).given (omega arith)
 
-  pub first_sound : IsSound look tells t
-  first_sound =
+  pub first_sound : (tells ≡ true → all_of (look client) ≡ (look client).source) → IsSound look tells t
+  first_sound whole =
       begins_sound look tells t client client_is begun_is response_is
       (subst (λ (r : Request). HoldsHead r.reading r.held) (sym request_is) (lacks_none, omega arith))
       (λ tell. sym (append-nil (look client).given)
       ∙ (λ i. sym given_first i ++ (sym request_is i).held))
-      (subst (λ (r : Request). StandsBy r.reading r [] (look client).left) (sym request_is) refl)
-      (λ before at. subst (λ (r : Request). EndsEmpty r.reading (look client)) (sym request_is) tt)
+      whole (subst (λ (r : Request). StandsBy r.reading r [] (look client).left) (sym request_is) refl)
 
   pub first_new : t.place ≡ 1 → t.reads ≡ 0 → t.writes ≡ 0 → IsNew look tells client t
   first_new place reads writes = record {
@@ -654,10 +645,9 @@ module _ {C : Type 0} (look : C → Look) (tells : Bool) (t : Course C) (client 
 -- and one behind another
 pub next_sound : {C : Type 0} (look : C → Look) (tells : Bool) (s t : Course C) → IsSound look tells s
     → t.client ≡ s.client → t.begun.value ≡ s.client → t.surplus ≡ length s.request.held
-    → Decides (fresh_request s.request.held) t.request t.request.reading → t.response ≡ fresh_response
+    → Decides (fresh_request s.request.chunks s.request.held) t.request → t.response ≡ fresh_response
     → IsSound look tells t
-next_sound look tells s t sound client begun surplus decides response =
-    let d = decided (fresh_request s.request.held) t.request (look s.client) decides in
+next_sound look tells s t sound client begun surplus d response =
     begins_sound look tells t s.client client begun response d.head
     (λ tell.
     let p = sound.request.link tell in
@@ -669,27 +659,7 @@ next_sound look tells s t sound client begun surplus decides response =
     ∙ (λ i. sym before i ++ s.request.held)
     ∙ (λ i. take (length (look (sym begun i)).given - sym surplus i) (look (sym begun i)).given
     ++ sym d.held_is i))
-    d.stands d.empty
-
--- of which nothing was given
-pub next_unread : (held : List ℕ) (r : Request) → Decides (fresh_request held) r r.reading → IsUnread r
-next_unread held r decides = by_reading r.reading refl decides
-  where
-    by_reading : (x : Reading) → r.reading ≡ x → Decides (fresh_request held) r x → IsUnread r
-    by_reading R.Head is d = inl (ap is_head is)
-    by_reading (R.Known n) is (f, size, found, ends, long, same) =
-        inr (subst (λ (q : Request). 0 < length q.held) (sym same)
-        (begins_some held found.head (drop f.used held) found.begins))
-    by_reading R.Open is (same, some, all) =
-        inr (subst (λ (q : Request). 0 < length q.held) (sym same) some)
-
-pub next_held : (held : List ℕ) (r : Request) → Decides (fresh_request held) r r.reading → r.held ≡ held
-next_held held r decides = by_reading r.reading decides
-  where
-    by_reading : (x : Reading) → Decides (fresh_request held) r x → r.held ≡ held
-    by_reading R.Head d = ap (λ (q : Request). q.held) d.0
-    by_reading (R.Known n) (f, size, found, ends, long, same) = ap (λ (q : Request). q.held) same
-    by_reading R.Open d = ap (λ (q : Request). q.held) d.0
+    (λ tell. (sound.request.link tell).whole) (d.stands (look s.client).left)
 
 -- the session may carry one more request
 pub place_within : {C : Type 0} (look : C → Look) (tells : Bool) (s : Course C) → IsSound look tells s

@@ -1,12 +1,17 @@
 pub mod Agreeing
+pub mod Bodies
 pub mod ChunkCuts
 pub mod ChunksEnd
+pub mod Cuts
 pub mod Decisions
 pub mod Dropping
 pub mod EmptyLines
 pub mod Ends
+pub mod FirstRequest
+pub mod Following
 pub mod FoundHeads
 pub mod Giving
+pub mod HeadTests
 pub mod HeadWalks
 pub mod HeldBytes
 pub mod HeldLines

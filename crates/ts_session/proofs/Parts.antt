@@ -1,11 +1,10 @@
 -- What is seen of a request, by what stands before it and what is held.
-use Rattle.std.proofs.Common.{◌≡◌, ℕ, zero, suc, ◌+◌, ◌≤◌, List, [], ◌∷◌, ◌++◌, length, take, drop, refl, sym, ap, ◌∙◌, arith}
+use Rattle.std.proofs.Common.{◌≡◌, ℕ, zero, suc, ◌+◌, List, [], ◌∷◌, ◌++◌, length, take, drop, refl, sym, ap, ◌∙◌, arith}
 use Rattle.std.proofs.Common.{append_assoc}
-use Rattle.std.proofs.lemmas.List.{drop_at, length-take}
+use Rattle.std.proofs.lemmas.List.{drop_at}
 use Rattle.ts_lists.proofs.Fronts.{rest_by_length}
-use Rattle.ts_session.specs.Course.{given_on, left_by, since}
-use Rattle.ts_session.specs.declared.request.Reading.{Reading}
-use Rattle.ts_session.specs.declared.request.Reading.TheVariants as R
+use Rattle.ts_link.specs.Link.{Look, all_of}
+use Rattle.ts_session.specs.Course.{given_on, since}
 
 -- what stands behind a front is the rest
 pub since_is : (front rest bytes : List ℕ) → bytes ≡ front ++ rest → since front bytes ≡ rest
@@ -18,11 +17,13 @@ given_is before given held all is =
     since_is before given (given_on held all)
     (rest_by_length all (before ++ given) held (is ∙ sym (append_assoc before given held)))
 
--- no more may be given of it than is left
-pub left_short : (x : Reading) (rest : List ℕ) → length (left_by x rest) ≤ length rest
-left_short R.Head rest = omega arith
-left_short (R.Known n) rest = omega (arith, length-take n rest)
-left_short R.Open rest = omega arith
+-- what a client gives from where the request begins, whose source is all that it gives
+pub asked_is : (before given held : List ℕ) (l : Look) → l.given ≡ before ++ (given ++ held) → all_of l ≡ l.source
+    → since before l.source ≡ given ++ (held ++ l.left)
+asked_is before given held l placed whole =
+    since_is before (given ++ (held ++ l.left)) l.source
+    (sym whole ∙ ap (λ g. g ++ l.left) placed ∙ append_assoc before (given ++ held) l.left
+    ∙ ap (λ t. before ++ t) (append_assoc given held l.left))
 
 -- what came stands behind what was held
 pub came_behind : (before given held came l m : List ℕ) → l ≡ before ++ (given ++ held) → m ≡ l ++ came

@@ -11,7 +11,7 @@ use Rattle.ts_session.specs.Reading.{IsUnread, Polls}
 use Rattle.ts_session.specs.declared.course.Polled.TheVariants as P
 use Rattle.ts_session.specs.declared.request.Reading.TheVariants as R
 use Rattle.ts_session.specs.declared.request.Request.{Request}
-use Rattle.ts_session.proofs.Giving.{decided, filled_ended, filled_fails, filled_known, filled_more}
+use Rattle.ts_session.proofs.Giving.{filled_ended, filled_fails, filled_known, filled_more}
 use Rattle.ts_session.proofs.Giving.{filled_waits, is_head_stage, moves_none}
 
 -- something is held
@@ -30,11 +30,10 @@ unread_head r unread none =
 module _ (tells : Bool) (r : Request) (held' : List ℕ) (l m : Look) (stage : r.reading ≡ R.Head)
     (head : HoldsHead r.reading r.held) (none : r.held ≡ []) where
   pub bytes_polls : (n : ℕ) → FillsFrom tells r.held held' l m (G.Bytes n) → (s : Request)
-      → Decides (record r { held = held' }) s s.reading → Polls tells r s l m P.Some
+      → Decides (record r { held = held' }) s → Polls tells r s l m P.Some
   bytes_polls n fills s decides =
       let more = filled_more tells r held' l m stage head n fills in
-      let same = (decided (record r { held = held' }) s m decides).held_is in
-      let some : 0 < length s.held = omega (arith, more, ap length same) in
+      let some : 0 < length s.held = omega (arith, more, ap length decides.held_is) in
       record {
         holds = some;
         moves = (filled_known tells r held' l m stage head n fills s decides).0;

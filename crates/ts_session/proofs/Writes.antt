@@ -1,100 +1,50 @@
 -- What a write to a client does to the response that is written to a span, and to the request that it shows.
 use Rattle.std.proofs.Common.{◌≡◌, ℕ, ◌<◌, ◌≤◌, Bool, true, false, List, [], ◌++◌, length, take, drop, inl, refl}
-use Rattle.std.proofs.Common.{sym, ap, subst, ⊎_elim, ◌∙◌, arith, append_assoc, length-append}
+use Rattle.std.proofs.Common.{sym, ap, subst, ⊎_elim, ◌∙◌, arith, append_assoc}
 use Rattle.std.specs.Prelude.{◌&&◌}
 use Rattle.std.proofs.lemmas.Bool.{and_from, cases_lt, or_left}
-use Rattle.std.proofs.lemmas.List.{append-nil, drop_at, length-take, take-take, take_at}
-use Rattle.ts_link.specs.Link.{Look, MayReplace, Writes}
+use Rattle.std.proofs.lemmas.List.{append-nil, append_cancel_left, drop_at, length-take, take-take, take_at}
+use Rattle.ts_link.specs.Link.{Look, Writes}
 use Rattle.ts_link.specs.LinkAnswers.{PutsSome, count_put}
 use Rattle.ts_link.specs.declared.link.Put.{Put}
 use Rattle.ts_link.specs.declared.link.Put.TheVariants as P
-use Rattle.ts_session.specs.Course.{EndsEmpty, HoldsRequest, IsPlaced, IsRest, IsWithin}
-use Rattle.ts_session.specs.Course.{RespondsBy, StandsBy, TookSent, given_on, has_found, left_by, since, stage_by}
-use Rattle.ts_session.specs.Course.{written_by}
+use Rattle.ts_session.specs.Course.{HoldsRequest, IsRest, IsWithin, RespondsBy, StandsBy, TookSent, has_found}
+use Rattle.ts_session.specs.Course.{since, stage_by, written_by}
+use Rattle.ts_session.specs.Held.{StaysWhole}
 use Rattle.ts_session.specs.Kept.{close_line}
 use Rattle.ts_session.specs.Lines.{BeginsLine, GoesOver, HasEnded, PassesNoLine, ShowsHead, agrees}
 use Rattle.ts_session.specs.Lines.{may_drop_at}
 use Rattle.ts_session.specs.Writing.{DropsOn, LeavesAll, LeavesClient, WritesOn}
 use Rattle.ts_session.specs.declared.lines.Lines.{Lines}
-use Rattle.ts_session.specs.declared.request.Reading.{Reading}
-use Rattle.ts_session.specs.declared.request.Reading.TheVariants as R
 use Rattle.ts_session.specs.declared.request.Request.{Request}
 use Rattle.ts_session.specs.declared.response.Response.{Response}
 use Rattle.ts_session.specs.declared.response.Sending.{Sending}
 use Rattle.ts_session.specs.declared.response.Sending.TheVariants as S
 use Rattle.ts_session.proofs.HeadWalks.{begins_may, ended_begins}
 use Rattle.ts_session.proofs.LineFronts.{ended_more}
-use Rattle.ts_session.proofs.LinkCalls.{before_is, replace_none, replace_short}
-use Rattle.ts_session.proofs.Parts.{given_is, since_is}
-use Rattle.ts_session.proofs.Giving.{known_is_not_head, left_stays, open_is_not_head}
+use Rattle.ts_session.proofs.Parts.{since_is}
 
 -- ---- the request
 
--- what a write of the client leaves of the request: before anything was given another list may stand in the place
--- of what is left
-module _ (before : List ℕ) (r : Request) (l m : Look) (given : m.given ≡ l.given)
-    (may : MayReplace l.given l.left m.left) where
-  -- where it is known how the request ends, all stays
-  same_left : (p : IsPlaced before r l) → (r.reading ≡ R.Head → ⊥) → m.left ≡ l.left
-  same_left p known =
-      before_is l.given l.left m.left
-      (left_stays r.reading before r l p.given p.placed p.stands p.empty known) may
-
-  shown_left : (x : Reading) → r.reading ≡ x → (p : IsPlaced before r l)
-      → MayReplace (since before (given_on r.held l.given)) (left_by x (r.held ++ l.left))
-      (left_by x (r.held ++ m.left))
-  shown_left R.Head is p =
-      let none : p.given ≡ [] = subst (λ x. StandsBy x r p.given l.left) is p.stands in
-      let nothing : since before (given_on r.held l.given) ≡ [] =
-      given_is before [] r.held l.given (p.placed ∙ ap (λ g. before ++ (g ++ r.held)) none) in
-      subst (λ g. MayReplace g (r.held ++ l.left) (r.held ++ m.left)) (sym nothing)
-      (omega (
-        arith,
-        replace_short l.given l.left m.left may,
-        length-append r.held l.left,
-        length-append r.held m.left,
-      ))
-  shown_left (R.Known n) is p =
-      subst (λ y. MayReplace (since before (given_on r.held l.given)) (take n (r.held ++ l.left))
-      (take n (r.held ++ y))) (sym (same_left p (known_is_not_head r.reading n is)))
-      (replace_none (since before (given_on r.held l.given)) (take n (r.held ++ l.left)))
-  shown_left R.Open is p =
-      subst (λ y. MayReplace (since before (given_on r.held l.given)) (r.held ++ l.left) (r.held ++ y))
-      (sym (same_left p (open_is_not_head r.reading is)))
-      (replace_none (since before (given_on r.held l.given)) (r.held ++ l.left))
-
-  still_stands : (x : Reading) → r.reading ≡ x → (p : IsPlaced before r l)
-      → StandsBy x r p.given m.left × EndsEmpty x m
-  still_stands R.Head is p = (subst (λ x. StandsBy x r p.given l.left) is p.stands, tt)
-  still_stands (R.Known n) is p = (subst (λ x. StandsBy x r p.given l.left) is p.stands, tt)
-  still_stands R.Open is p =
-      let same = same_left p (open_is_not_head r.reading is) in (
-        subst (λ y. StandsBy R.Open r p.given y) (sym same)
-            (subst (λ x. StandsBy x r p.given l.left) is p.stands),
-        λ none. same ∙ subst (λ x. EndsEmpty x l) is p.empty (sym given ∙ none),
-      )
-
-  still_placed : IsPlaced before r l → IsPlaced before r m
-  still_placed p =
-      let stands = still_stands r.reading refl p in
-      record { given = p.given; placed = given ∙ p.placed; stands = stands.0; empty = stands.1 }
-
--- so the request holds
+-- a write of the client leaves the request as it is, where all that the client gives is its source
 pub request_stays : (tells : Bool) (before : List ℕ) (r : Request) (l m : Look)
-    → (tells ≡ true → m.given ≡ l.given) → (tells ≡ true → MayReplace l.given l.left m.left)
+    → (tells ≡ true → m.given ≡ l.given) → m.source ≡ l.source → StaysWhole tells l m
     → HoldsRequest tells before r l → HoldsRequest tells before r m
-request_stays tells before r l m given may holds = record {
+request_stays tells before r l m given source whole holds = record {
   head = holds.head;
-  link = λ tell. still_placed before r l m (given tell) (may tell) (holds.link tell);
+  link = λ tell.
+      let p = holds.link tell in
+      let now = whole tell p.whole in
+      let left : l.left ≡ m.left =
+      append_cancel_left l.given l.left m.left
+      (p.whole ∙ sym source ∙ sym now ∙ ap (λ g. g ++ m.left) (given tell)) in
+      record {
+        given = p.given;
+        placed = given tell ∙ p.placed;
+        whole = now;
+        stands = subst (λ t. StandsBy r.reading r p.given t) left p.stands;
+      };
 }
-
-pub request_left : (tells : Bool) (before : List ℕ) (r : Request) (l m : Look)
-    → (tells ≡ true → m.given ≡ l.given) → (tells ≡ true → MayReplace l.given l.left m.left)
-    → HoldsRequest tells before r l → tells ≡ true
-    → MayReplace (since before (given_on r.held l.given)) (left_by r.reading (r.held ++ l.left))
-    (left_by r.reading (r.held ++ m.left))
-request_left tells before r l m given may holds tell =
-    shown_left before r l m (given tell) (may tell) r.reading refl (holds.link tell)
 
 -- ---- the response
 

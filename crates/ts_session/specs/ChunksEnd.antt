@@ -1,21 +1,15 @@
--- Where a body in chunks ends, as a function of its bytes (RFC 9112, section 7.1): all ways to cut them are tried.
-use Rattle.std.specs.Prelude.{◌≡◌, ℕ, zero, suc, ◌+◌, ◌≤◌, Bool, false, ◌&&◌, ◌||◌, List, [], ◌∷◌, ◌++◌}
+-- Where a body in chunks ends, as a function of its bytes (RFC 9112, section 7.1): all ways to cut them are
+-- tried.
+use Rattle.std.specs.Prelude.{◌≡◌, ℕ, zero, suc, ◌+◌, ◌≤◌, Bool, true, false, ◌&&◌, ◌||◌, List, [], ◌∷◌, ◌++◌}
 use Rattle.std.specs.Prelude.{length, take, drop, Option, Some, None, if◌then◌else◌, ◌==◌, nat_lt, nat_le, bytes_eq}
 use Rattle.std.specs.List.{list_all}
 use Rattle.std.specs.Char.{is_ascii_hexdigit}
 use Rattle.std.specs.Str.Parse.{digits_value}
-use Rattle.httparse.specs.Ascii.{colon, crlf_bytes, line_feed, semicolon}
-use Rattle.httparse.specs.Grammar.{is_extension_byte, is_ows, is_token, is_value_byte}
+use Rattle.httparse.specs.Ascii.{crlf_bytes, semicolon}
+use Rattle.httparse.specs.Grammar.{is_extension_byte, is_ows}
 use Rattle.ts_wire.specs.Body.{IsBadChunked, IsEndedChunked}
 use Rattle.ts_wire.specs.Limits.{body_limit, line_limit, trailer_fields, trailer_limit}
-
--- the bytes can be cut in two of which the test is true, where this front stands before the first
-abbrev pub cuts_behind : (List ℕ → List ℕ → Bool) → List ℕ → List ℕ → Bool
-cuts_behind test front [] = test front []
-cuts_behind test front (b ∷ bytes) = test front (b ∷ bytes) || cuts_behind test (front ++ b ∷ []) bytes
-
-abbrev pub cuts : (List ℕ → List ℕ → Bool) → List ℕ → Bool
-cuts test bytes = cuts_behind test [] bytes
+use Rattle.ts_session.specs.Cuts.{cuts, is_section_with}
 
 -- ---- a chunk line
 
@@ -43,25 +37,6 @@ unfoldable pub begins_with_line : (ℕ → List ℕ → Bool) → List ℕ → B
 begins_with_line test bytes =
     cuts (λ line rest. nat_le (length line) line_limit && is_line_with (λ size. test size rest) line) bytes
 
--- ---- a trailer section
-
-unfoldable pub is_line_end : List ℕ → Bool
-is_line_end bytes = bytes_eq bytes crlf_bytes || bytes_eq bytes (line_feed ∷ [])
-
--- what follows the name in a field line
-unfoldable pub is_name_end : List ℕ → Bool
-is_name_end [] = false
-is_name_end (b ∷ bytes) = (b == colon) && cuts (λ raw end. list_all is_value_byte raw && is_line_end end) bytes
-
-unfoldable pub is_field_line : List ℕ → Bool
-is_field_line line = cuts (λ name end. is_token name && is_name_end end) line
-
--- a section of so many fields at most
-unfoldable pub is_section : ℕ → List ℕ → Bool
-is_section zero bytes = is_line_end bytes
-is_section (suc most) bytes =
-    is_line_end bytes || cuts (λ line rest. is_field_line line && is_section most rest) bytes
-
 -- ---- the body
 
 -- what follows the line of a chunk of this size, where the rest of a body behind it passes the test
@@ -75,7 +50,7 @@ unfoldable pub is_body : ℕ → ℕ → List ℕ → Bool
 is_body zero total bytes = false
 is_body (suc most) total bytes =
     begins_with_line (λ size rest. if size == 0
-    then nat_le (length rest) trailer_limit && is_section trailer_fields rest
+    then nat_le (length rest) trailer_limit && is_section_with (λ fields. true) trailer_fields rest
     else nat_le (total + size) body_limit && is_content size (is_body most (total + size)) rest) bytes
 
 -- the bytes are a body in chunks that has ended

@@ -1,18 +1,22 @@
 -- What is seen of a span, the link that shows one request of a client and then its end.
-use Rattle.std.specs.Prelude.{◌≡◌, ℕ, ◌+◌, ◌-◌, ◌<◌, List, [], ◌++◌, length, take, drop, slice_range}
+use Rattle.std.specs.Prelude.{◌≡◌, ℕ, ◌+◌, ◌-◌, ◌<◌, ◌≤◌, List, [], ◌++◌, length, take, drop, slice_range}
 use Rattle.std.specs.Prelude.{Bool, true, false, ◌&&◌, ◌==◌, if◌then◌else◌, nat_lt, None, ⊤, refl}
 use Rattle.std.proofs.Common.{◌∙◌}
 use Rattle.httparse.specs.Grammar as grammar
 use Rattle.httparse.specs.Grammar.{print_request}
-use Rattle.ts_link.specs.Link.{Look}
+use Rattle.ts_link.specs.Link.{Look, all_of}
 use Rattle.ts_wire.specs.Heads.{BeginsWithRequest, LacksRequest}
 use Rattle.ts_wire.specs.Limits.{head_limit}
+use Rattle.ts_wire.specs.Place.{Place}
 use Rattle.ts_wire.specs.RequestEnds.{end_of_request}
+use Rattle.ts_wire.specs.declared.ends.RequestEnd.{RequestEnd}
 use Rattle.ts_wire.specs.declared.ends.RequestEnd.TheVariants as E
+use Rattle.ts_session.specs.Chunks.{IsAmid}
+use Rattle.ts_session.specs.FirstRequest.{first_request}
 use Rattle.ts_session.specs.Kept.{close_line}
 use Rattle.ts_session.specs.Limits.{most_places}
 use Rattle.ts_session.specs.Lines.{BeginsLine, HasEnded, IsCut, ShowsHead, may_drop_at, new_lines}
-use Rattle.ts_session.specs.Requests.{GivesAll, asks_head, persists}
+use Rattle.ts_session.specs.Requests.{GivesAll, IsBodyBy, asks_head, persists}
 use Rattle.ts_session.specs.declared.course.Course.{Course}
 use Rattle.ts_session.specs.declared.lines.Lines.{Lines}
 use Rattle.ts_session.specs.declared.request.Reading.{Reading}
@@ -28,22 +32,20 @@ since front bytes = drop (length front) bytes
 
 -- ---- the request
 
--- what may still be given of it, of all that the client has left
-abbrev pub left_by : Reading → List ℕ → List ℕ
-left_by R.Head rest = rest
-left_by (R.Known n) rest = take n rest
-left_by R.Open rest = rest
-
 -- what was given on of what the client gave, where these last bytes of it are held
 abbrev pub given_on : List ℕ → List ℕ → List ℕ
 given_on held given = take (length given - length held) given
 
--- a client that is seen so, where this stands before the request: what is shown of the request
-abbrev pub request_through : List ℕ → Request → Look → Look
-request_through before r l = record l {
-  given = since before (given_on r.held l.given);
-  left = left_by r.reading (r.held ++ l.left);
+-- a client that is seen so, where this stands before the request and so much of this was given on: what is
+-- shown of the request
+abbrev pub shown_behind : List ℕ → List ℕ → Look → Look
+shown_behind before given l = record l {
+  given = given;
+  left = since given (first_request (since before l.source));
 }
+
+abbrev pub request_through : List ℕ → Request → Look → Look
+request_through before r l = shown_behind before (since before (given_on r.held l.given)) l
 
 -- the head is still read
 abbrev pub is_head : Reading → Bool
@@ -51,8 +53,21 @@ is_head R.Head = true
 is_head _ = false
 
 -- a request of which nothing is known, where these bytes are held
-abbrev pub fresh_request : List ℕ → Request
-fresh_request held = record { held = held; reading = R.Head; persists = false; asks_head = false }
+abbrev pub fresh_request : Place → List ℕ → Request
+fresh_request chunks held = record {
+  held = held;
+  chunks = chunks;
+  reading = R.Head;
+  persists = false;
+  asks_head = false;
+}
+
+-- so many of the first bytes are the body of a request that ends so: as many as its head says, or a whole body
+-- in chunks
+abbrev pub HasBodyOf : RequestEnd → ℕ → List ℕ → Type 0
+HasBodyOf (E.Sized n) size bytes = size ≡ n
+HasBodyOf E.Chunked size bytes = (size ≤ length bytes) × IsBodyBy E.Chunked (take size bytes)
+HasBodyOf E.Unknown size bytes = ⊥
 
 -- where the request ends is known, and so many bytes of it are still to be given
 pub record IsKnown (n : ℕ) (r : Request) (given : List ℕ) : Type 0 where
@@ -60,8 +75,18 @@ pub record IsKnown (n : ℕ) (r : Request) (given : List ℕ) : Type 0 where
   pub rest : List ℕ
   pub begins : BeginsWithRequest (given ++ r.held) head rest
   pub size : ℕ
-  pub ends : end_of_request head ≡ E.Sized size
+  pub ends : HasBodyOf (end_of_request head) size rest
   pub long : length given + n ≡ length (print_request head) + size
+  pub persists_is : r.persists ≡ persists head
+  pub asks_is : r.asks_head ≡ asks_head head
+
+-- behind a head these bytes have a body in chunks, all of which was looked at and which goes on behind them
+pub record IsInChunks (r : Request) (bytes : List ℕ) : Type 0 where
+  pub head : grammar.RequestHead
+  pub rest : List ℕ
+  pub begins : BeginsWithRequest bytes head rest
+  pub ends : end_of_request head ≡ E.Chunked
+  pub amid : IsAmid rest r.chunks
   pub persists_is : r.persists ≡ persists head
   pub asks_is : r.asks_head ≡ asks_head head
 
@@ -69,20 +94,15 @@ pub record IsKnown (n : ℕ) (r : Request) (given : List ℕ) : Type 0 where
 abbrev pub StandsBy : Reading → Request → List ℕ → List ℕ → Type 0
 StandsBy R.Head r given left = given ≡ []
 StandsBy (R.Known n) r given left = IsKnown n r given
+StandsBy R.Chunks r given left = IsInChunks r (given ++ r.held)
 StandsBy R.Open r given left = GivesAll (given ++ (r.held ++ left))
-
--- where nothing came of the client and all that it has left is given, it has nothing left
-abbrev pub EndsEmpty : Reading → Look → Type 0
-EndsEmpty R.Head l = ⊤
-EndsEmpty (R.Known n) l = ⊤
-EndsEmpty R.Open l = l.given ≡ [] → l.left ≡ []
 
 -- before the request stands what came before, then what was given of it, and last what is held
 pub record IsPlaced (before : List ℕ) (r : Request) (l : Look) : Type 0 where
   pub given : List ℕ
   pub placed : l.given ≡ before ++ (given ++ r.held)
+  pub whole : all_of l ≡ l.source
   pub stands : StandsBy r.reading r given l.left
-  pub empty : EndsEmpty r.reading l
 
 -- no head is whole in what is held, and there is room for more of one
 abbrev pub HoldsHead : Reading → List ℕ → Type 0
@@ -206,8 +226,12 @@ module _ {C : Type 0} (look : C → Look) where
   abbrev pub request_given : Course C → List ℕ
   request_given s = since (given_before s) (given_on s.request.held (look s.client).given)
 
+  -- the request, which is the first of what the client gives from there on
+  abbrev pub request_of : Course C → List ℕ
+  request_of s = first_request (since (given_before s) (look s.client).source)
+
   abbrev pub request_rest : Course C → List ℕ
-  request_rest s = left_by s.request.reading (s.request.held ++ (look s.client).left)
+  request_rest s = since (request_given s) (request_of s)
 
   abbrev pub response_written : Course C → List ℕ
   response_written s =
@@ -219,7 +243,7 @@ module _ {C : Type 0} (look : C → Look) where
     given = told tells (request_given s);
     left = told tells (request_rest s);
     taken = told tells (response_written s);
-    source = since (given_before s) (look s.client).source;
+    source = request_of s;
     reads = s.reads;
     writes = s.writes;
     agains = None;

@@ -1,18 +1,17 @@
 -- What the first bytes of a client say of its next request.
-use Rattle.std.specs.Prelude.{◌≡◌, ℕ, ◌+◌, ◌<◌, ◌≤◌, List, ◌++◌, length, drop}
+use Rattle.std.specs.Prelude.{◌≡◌, ◌⊎◌, ℕ, ◌<◌, ◌≤◌, true, false, List, [], ◌++◌, length, drop}
 use Rattle.httparse.specs.Grammar as grammar
 use Rattle.httparse.specs.Grammar.{print_request}
 use Rattle.ts_wire.specs.Heads.{BeginsWithRequest, LacksRequest}
 use Rattle.ts_wire.specs.Limits.{head_limit}
 use Rattle.ts_wire.specs.RequestEnds.{end_of_request}
-use Rattle.ts_session.specs.Requests.{GivesAll, asks_head, persists}
+use Rattle.ts_session.specs.Course.{HoldsHead, IsInChunks, StandsBy, is_head}
+use Rattle.ts_session.specs.Held.{before_last}
+use Rattle.ts_session.specs.Requests.{asks_head, persists}
 use Rattle.ts_session.specs.declared.finding.FoundHead.{FoundHead}
 use Rattle.ts_session.specs.declared.finding.Found.{Found}
 use Rattle.ts_session.specs.declared.finding.Found.TheVariants as F
-use Rattle.ts_session.specs.declared.request.Reading.{Reading}
-use Rattle.ts_session.specs.declared.request.Reading.TheVariants as R
 use Rattle.ts_session.specs.declared.request.Request.{Request}
-use Rattle.ts_wire.specs.declared.ends.RequestEnd.TheVariants as E
 
 -- no head stands at their front, whatever follows
 abbrev pub NeverRequest : List ℕ → Type 0
@@ -34,21 +33,18 @@ IsFound bytes F.More = LacksRequest bytes × (length bytes < head_limit)
 IsFound bytes F.Never = NeverRequest bytes
 IsFound bytes (F.Head head) = IsHeadFound bytes head
 
--- a request whose head is known, and of which so many bytes are still to be given
-abbrev pub known_request : Request → ℕ → FoundHead → Request
-known_request r n f = record {
-  held = r.held;
-  reading = R.Known n;
-  persists = f.persists;
-  asks_head = f.asks_head;
-}
+-- What the bytes that are held say of a request whose head is read: with more of them it may be known; it is
+-- known where it ends, or how far a body in chunks is; or all that the client gives belongs to it.
+pub record Decides (old new : Request) : Type 0 where
+  pub held_is : new.held ≡ old.held
+  pub head : HoldsHead new.reading new.held
+  pub stands : (left : List ℕ) → StandsBy new.reading new [] left
+  pub unread : (is_head new.reading ≡ true) ⊎ (0 < length new.held)
 
--- What the bytes that are held say of a request whose head is read: with more of them it may be known; it is known
--- where it ends; or all that the client gives belongs to it.
-abbrev pub Decides : Request → Request → Reading → Type 0
-Decides old new R.Head = (new ≡ old) × LacksRequest old.held × (length old.held < head_limit)
-Decides old new (R.Known n) =
-    (f : FoundHead) × (size : ℕ) × IsHeadFound old.held f × (f.end ≡ E.Sized size) × (n ≡ f.used + size)
-    × (new ≡ known_request old n f)
-Decides old new R.Open =
-    (new ≡ record old { reading = R.Open }) × (0 < length old.held) × ((more : List ℕ) → GivesAll (old.held ++ more))
+-- The last so many bytes that are held were looked at, of a request whose body comes in chunks: it goes on, or
+-- it is known where it ends, or all that the client gives belongs to it.
+pub record GoesOnChunked (fresh : ℕ) (old new : Request) : Type 0 where
+  pub held_is : new.held ≡ old.held
+  pub known : is_head new.reading ≡ false
+  pub stands : (given : List ℕ) → IsInChunks old (given ++ before_last fresh old.held) → (left : List ℕ)
+      → StandsBy new.reading new given left

@@ -4,14 +4,19 @@ use Rattle.std.specs.List.{list_all}
 use Rattle.httparse.specs.Ascii.{carriage_return, line_feed}
 use Rattle.ts_wire.specs.Heads.{LacksRequest}
 use Rattle.ts_wire.specs.Limits.{head_limit}
-use Rattle.ts_link.specs.Link.{Calls, GivesMore, Look, Reads}
+use Rattle.ts_link.specs.Link.{Calls, GivesMore, Look, Reads, all_of}
 use Rattle.ts_link.specs.LinkAnswers.{EndsWell, FillsSome, count_got, got_again, got_failed}
 use Rattle.ts_link.specs.declared.link.Got.{Got}
+
+-- where all that a client gave and may still give was its source, it still is
+abbrev pub StaysWhole : Bool → Look → Look → Type 0
+StaysWhole tells l l' = tells ≡ true → all_of l ≡ l.source → all_of l' ≡ l'.source
 
 -- one read of the client, whose bytes are put behind those that are held
 pub record FillsFrom (tells : Bool) (held held' : List ℕ) (l l' : Look) (answer : Got) : Type 0 where
   pub into : List ℕ
   pub reads : Reads tells l l' answer into
+  pub whole : StaysWhole tells l l'
   pub held_is : held' ≡ held ++ take (count_got answer) into
 
 -- one read of the client into the room behind its first `kept` bytes
@@ -19,6 +24,7 @@ pub record ReadsBehind (tells : Bool) (kept : ℕ) (room room' : List ℕ) (l l'
     (answer : Got) : Type 0 where
   pub into : List ℕ
   pub reads : Reads tells l l' answer into
+  pub whole : StaysWhole tells l l'
   pub room_is : room' ≡ take kept room ++ into
   pub long : kept + length into ≡ length room
 
@@ -38,6 +44,7 @@ pub record ReadsFront (tells : Bool) (most : ℕ) (into into' : List ℕ) (l l' 
     : Type 0 where
   pub part : List ℕ
   pub reads : Reads tells l l' answer part
+  pub whole : StaysWhole tells l l'
   pub few : length part ≤ most
   pub fits : length part ≤ length into'
   pub bytes : take (count_got answer) into' ≡ take (count_got answer) part
@@ -52,6 +59,7 @@ pub record GivesPart (tells : Bool) (held held' : List ℕ) (l l' : Look) (answe
   pub few : count_got answer ≤ most
   pub calls : Calls l l' (got_failed answer) (got_again answer)
   pub writes : l'.writes ≡ l.writes
+  pub whole : StaysWhole tells l l'
   pub told : tells ≡ true → GivesMore l l' came
   pub moved : held ++ came ≡ take (count_got answer) into ++ held'
   pub ends : tells ≡ true → EndsWell answer (held' ++ l'.left)

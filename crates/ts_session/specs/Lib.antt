@@ -1,6 +1,9 @@
+pub mod Chunks
 pub mod ChunksEnd
 pub mod Course
+pub mod Cuts
 pub mod Finding
+pub mod FirstRequest
 pub mod Held
 pub mod Kept
 pub mod Limits

@@ -1,13 +1,14 @@
 -- What reads of a span do to its request and to its client.
-use Rattle.std.specs.Prelude.{◌≡◌, ℕ, ◌<◌, ◌⊎◌, Bool, true, false, List, [], ◌++◌, length, take, ⊤}
+use Rattle.std.specs.Prelude.{◌≡◌, ℕ, ◌<◌, ◌⊎◌, Bool, true, false, List, [], length, take, ⊤}
 use Rattle.ts_link.specs.Link.{Calls, GivesMore, Look}
 use Rattle.ts_link.specs.LinkAnswers.{EndsWell, FillsSome, count_got, got_again, got_failed}
 use Rattle.ts_link.specs.declared.link.Got.{Got}
-use Rattle.ts_session.specs.Course.{HoldsRequest, is_head, left_by, request_through}
+use Rattle.ts_session.specs.Course.{HoldsRequest, is_head, request_through}
 use Rattle.ts_session.specs.declared.course.Polled.{Polled}
 use Rattle.ts_session.specs.declared.course.Polled.TheVariants as P
 use Rattle.ts_session.specs.declared.reading.Sought.{Sought}
 use Rattle.ts_session.specs.declared.reading.Sought.TheVariants as K
+use Rattle.ts_session.specs.declared.request.Reading.{Reading}
 use Rattle.ts_session.specs.declared.request.Reading.TheVariants as R
 use Rattle.ts_session.specs.declared.request.Request.{Request}
 
@@ -47,16 +48,28 @@ MovesOn tells r r' l l' failed waited more =
 pub record Shows (tells : Bool) (r r' : Request) (l l' : Look) (answer : Got) (into : List ℕ) : Type 0 where
   pub fills : FillsSome answer (length into)
   pub moves : MovesOn tells r r' l l' (got_failed answer) (got_again answer) (take (count_got answer) into)
-  pub ends : tells ≡ true → EndsWell answer (left_by r'.reading (r'.held ++ l'.left))
+  pub ends : (before : List ℕ) → HoldsRequest tells before r l → tells ≡ true
+      → EndsWell answer (request_through before r' l').left
 
 -- it is known how the request ends, or more is held
 abbrev pub SeeksOn : Request → Request → Sought → Type 0
 SeeksOn old new K.On = (is_head new.reading ≡ false) ⊎ (length old.held < length new.held)
 SeeksOn old new _ = ⊤
 
--- it is known how the request ends, unless the client failed or waits
+-- its head is known, unless the client failed or waits
+abbrev pub HasHead : Request → Sought → Type 0
+HasHead r K.On = is_head r.reading ≡ false
+HasHead r _ = ⊤
+
+-- some of it may be given: its head is known, and of a body in chunks some is held
+abbrev pub IsThere : Reading → List ℕ → Type 0
+IsThere R.Head held = ⊥
+IsThere R.Chunks held = 0 < length held
+IsThere _ held = ⊤
+
+-- and so it is, unless the client failed or waits
 abbrev pub IsSought : Request → Sought → Type 0
-IsSought r K.On = is_head r.reading ≡ false
+IsSought r K.On = IsThere r.reading r.held
 IsSought r _ = ⊤
 
 -- ---- a poll

@@ -1,5 +1,5 @@
 -- What the spans of one client come to, one after the other (RFC 9112, section 9.3).
-use Rattle.std.specs.Prelude.{◌≡◌, ◌≢◌, ℕ, ◌<◌, ◌⊎◌, ◌||◌, Bool, true, false, List, [], ◌++◌, drop, slice_range}
+use Rattle.std.specs.Prelude.{◌≡◌, ℕ, ◌<◌, ◌||◌, Bool, true, false, List, [], ◌++◌, drop, slice_range}
 use Rattle.httparse.specs.Grammar as grammar
 use Rattle.ts_link.specs.Link.{Calls, GivesMore, Look, all_of}
 use Rattle.ts_session.specs.Course.{fresh_request, fresh_response, span_look}
@@ -7,17 +7,12 @@ use Rattle.ts_session.specs.declared.course.Course.{Course}
 use Rattle.ts_session.specs.Kept.{AreLines, IsKept, close_line}
 use Rattle.ts_session.specs.Limits.{most_places}
 use Rattle.ts_session.specs.Lines.{HasEnded, agrees}
+use Rattle.ts_session.specs.FirstRequest.{first_request}
 use Rattle.ts_session.specs.Requests.{IsRequest, IsRequestWith, asks_head, persists}
 use Rattle.ts_session.specs.Writing.{FindsLine, HoldsMore}
 use Rattle.ts_session.specs.declared.response.Sending.{Sending}
 use Rattle.ts_session.specs.declared.response.Sending.TheVariants as S
 use Rattle.ts_link.specs.declared.link.Put.{Put}
-use Rattle.ts_wire.specs.RequestEnds.{end_of_request}
-use Rattle.ts_wire.specs.declared.ends.RequestEnd.TheVariants as E
-
--- the request is the first of these bytes, whole, or all of them
-abbrev pub IsNext : List ℕ → List ℕ → Type 0
-IsNext bytes request = (request ≡ bytes) ⊎ ((more : List ℕ) × (bytes ≡ request ++ more) × IsRequest request)
 
 -- what a connection took of a response: what is kept of it where the connection goes on, or else all of it but for
 -- what waits
@@ -25,13 +20,13 @@ abbrev pub IsSent : Bool → List ℕ → List ℕ → List ℕ → Type 0
 IsSent true waits response sent = IsKept response sent
 IsSent false waits response sent = response ≡ sent ++ waits
 
--- THE CONNECTION OF A SPAN: behind what it gave before stands the request of the span, and then whatever follows;
--- and behind what it took before, it took the response of the span, without its line `connection: close` where
--- it goes on. Only a front of such a line may wait, within a head that has not ended.
+-- THE CONNECTION OF A SPAN: behind what it gave before stands the request of the span, the first of the bytes
+-- there, and then whatever follows; and behind what it took before, it took the response of the span, without its
+-- line `connection: close` where it goes on. Only a front of such a line may wait, within a head that has not ended.
 pub record IsSession (span : Look) (goes_on : Bool) (waits : List ℕ) (client : Look) : Type 0 where
   pub bytes : List ℕ
   pub gave : client.before.0 ++ all_of client ≡ span.before.0 ++ bytes
-  pub request : IsNext bytes (all_of span)
+  pub request : all_of span ≡ first_request bytes
   pub sent : List ℕ
   pub is_sent : IsSent goes_on waits span.taken sent
   pub took : client.before.1 ++ client.taken ≡ span.before.1 ++ sent
@@ -44,6 +39,7 @@ pub record IsSession (span : Look) (goes_on : Bool) (waits : List ℕ) (client :
 pub record MayContinue (span : Look) (place : ℕ) : Type 0 where
   pub head : grammar.RequestHead
   pub request : IsRequestWith head span.given
+  pub no_left : span.left ≡ []
   pub persists_is : persists head ≡ true
   pub within : place < most_places
   pub told : Bool
@@ -58,13 +54,14 @@ pub record MayContinue (span : Look) (place : ℕ) : Type 0 where
 pub record DropsLine (span : Look) (place : ℕ) (old new : Sending) (answer : Put) (piece : List ℕ) : Type 0 where
   pub goes_on : (count : ℕ) → old ≡ S.Line count → agrees (drop count close_line) piece ≡ true
       → HoldsMore count new answer piece
-  pub finds : (head : grammar.RequestHead) → IsRequestWith head span.given → end_of_request head ≢ E.Chunked
-      → persists head ≡ true → place < most_places → FindsLine (asks_head head) span.taken new answer piece
+  pub finds : (head : grammar.RequestHead) → IsRequestWith head span.given → persists head ≡ true
+      → place < most_places → FindsLine (asks_head head) span.taken new answer piece
 
 -- THE NEXT SPAN of a connection: it begins where this one ended, behind a whole request and behind what is kept
 -- of its response, and shows none of either
 pub record GoesBehind (span next : Look) : Type 0 where
   pub request : IsRequest span.given
+  pub no_left : span.left ≡ []
   pub gave : next.before.0 ≡ span.before.0 ++ span.given
   pub sent : List ℕ
   pub is_sent : IsKept span.taken sent
@@ -76,7 +73,7 @@ pub record GoesBehind (span next : Look) : Type 0 where
 -- THE FIRST SPAN of a connection, made of this client
 pub record IsNew {C : Type 0} (look : C → Look) (tells : Bool) (client : C) (s : Course C) : Type 0 where
   pub client_is : s.client ≡ client
-  pub request_is : s.request ≡ fresh_request []
+  pub request_is : s.request ≡ fresh_request s.request.chunks []
   pub response_is : s.response ≡ fresh_response
   pub place_is : s.place ≡ 1
   pub no_reads : s.reads ≡ 0

@@ -7,7 +7,7 @@ ghost use Rattle.ts_wire.specs.Limits.{head_limit};
 use crate::blank::blank_len;
 use std::alloc::Global;
 use std::marker::Model;
-use ts_link::{Got, Link, NoMemory};
+use ts_link::{Got, NoMemory, Sourced};
 use ts_wire::MAX_HEAD;
 
 /// Bytes that a client gave, held in a room as long as a head may be: those from `from` to `to` of it.
@@ -85,13 +85,15 @@ fn move_front(room: &mut Vec<u8>, from: usize, to: usize)
 }
 
 // Reads the client into the room behind its first `kept` bytes.
-fn read_behind<C: Link>(client: &mut C, room: &mut Vec<u8>, kept: usize) -> Got
+fn read_behind<C: Sourced>(client: &mut C, room: &mut Vec<u8>, kept: usize) -> Got
     requires { kept < length room.old.items }
     ensures reads { ReadsBehind C.tells kept room.old.items room.new.items
         (C.look client.old) (C.look client.new) result }
     ensures goes { C.goes client.old client.new }
 {
-    client.read(&mut room[kept..])
+    let got = client.read(&mut room[kept..]);
+    client.known();
+    got
 }
 
 impl Held {
@@ -131,7 +133,7 @@ impl Held {
     }
 
     // Reads the client behind what is held.
-    pub(crate) fn fill<C: Link>(&mut self, client: &mut C) -> Got
+    pub(crate) fn fill<C: Sourced>(&mut self, client: &mut C) -> Got
         requires { length self.old < head_limit }
         ensures fills { FillsFrom C.tells self.old self.new (C.look client.old) (C.look client.new) result }
         ensures goes { C.goes client.old client.new }

@@ -1,6 +1,7 @@
-//! Laws: the limits of a session, that the requests of a connection are one list, where a body in chunks ends, and
-//! that a response has one line that is dropped.
+//! Laws: the limits of a session, that the requests of a connection are one list, which of them is the first,
+//! where a body in chunks ends, and that a response has one line that is dropped.
 ghost use Rattle.ts_session.specs.ChunksEnd.{FindsChunksEnd};
+ghost use Rattle.ts_session.specs.FirstRequest.{FindsFirst};
 ghost use Rattle.ts_session.specs.Kept.{HasOneKept};
 ghost use Rattle.ts_session.specs.Limits.{AreLimits};
 ghost use Rattle.ts_session.specs.Requests.{HasOneList};
@@ -18,6 +19,11 @@ pub fn one_list()
 /// Where a body in chunks ends is a function of its bytes. This is a law: the function does nothing.
 pub fn chunks_end()
     ensures { FindsChunksEnd }
+{}
+
+/// The first request of a connection is a function of its bytes. This is a law: the function does nothing.
+pub fn first_request()
+    ensures { FindsFirst }
 {}
 
 /// What is kept of a response is one list. This is a law: the function does nothing.

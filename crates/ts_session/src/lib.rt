@@ -5,14 +5,15 @@
 //! # What goes where
 //!
 //! `Span` is a client's link that gives the bytes of one request alone, and then its end. It finds where the
-//! request ends off its head. What came behind that is held for the next span. Of the head that is written to it
-//! the line `connection: close` is dropped where the connection may go on behind this answer.
-//! Where a piece ends within a line that may be that one, the front of it is held until it is known. `next` turns a
-//! span whose line was dropped into that of the next request. `Spanned` is the link to an origin that such a
-//! client belongs to.
+//! request ends off its head and, where its body comes in chunks, off these. What came behind that is held for
+//! the next span. Of the head that is written to it the line `connection: close` is dropped where the
+//! connection may go on behind this answer. Where a piece ends within a line that may be that one, the front of
+//! it is held until it is known. `next` turns a span whose line was dropped into that of the next request.
+//! `Spanned` is the link to an origin that such a client belongs to.
 #![tactic(auto)]
 
 mod blank;
+mod chunks;
 mod course;
 mod finding;
 mod held;
@@ -26,6 +27,6 @@ mod spanned;
 mod writing;
 
 pub use course::{MOST_PLACES, Polled};
-pub use laws::{chunks_end, limits, one_kept, one_list};
+pub use laws::{chunks_end, first_request, limits, one_kept, one_list};
 pub use span::Span;
 pub use spanned::Spanned;

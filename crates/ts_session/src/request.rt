@@ -1,11 +1,12 @@
 //! The request that a span shows, as far as it is known.
 ghost use Rattle.std.specs.Prelude.{◌≡◌, ◌≤◌, [], length, IfOk};
 ghost use Rattle.ts_session.specs.Course.{fresh_request, is_head};
-ghost use Rattle.ts_session.specs.Finding.{Decides, IsHeadFound};
+ghost use Rattle.ts_session.specs.Finding.{Decides, GoesOnChunked, IsHeadFound};
 ghost use Rattle.ts_session.specs.Held.{before_last};
 ghost use Rattle.ts_wire.specs.Heads.{LacksRequest};
 ghost use Rattle.ts_wire.specs.Limits.{head_limit};
 
+use crate::chunks::{Chunks, Followed};
 use crate::finding::{Found, FoundHead, find_request};
 use crate::held::Held;
 use std::alloc::Global;
@@ -19,6 +20,8 @@ pub enum Reading {
     Head,
     /// So many bytes of it are still to be given.
     Known(u64),
+    /// Its body comes in chunks, and goes on behind all that is held.
+    Chunks,
     /// All that the client gives belongs to it.
     Open,
 }
@@ -27,6 +30,8 @@ pub enum Reading {
 #[derive(Drop)]
 pub struct Request {
     pub(crate) held: Held,
+    // Of a body in chunks: how far it is.
+    pub(crate) chunks: Chunks,
     pub(crate) reading: Reading,
     // Of a request of which it is known where it ends: whether its client lets the connection go on, and whether
     // it asks for the head of an answer alone.
@@ -37,11 +42,13 @@ pub struct Request {
 impl Request {
     // A request of which nothing came. It takes all the memory that it ever needs.
     pub(crate) fn make(alloc: Global) -> Result<Request, NoMemory>
-        ensures { IfOk result (λ r. r ≡ fresh_request []) }
+        ensures { IfOk result (λ r. r ≡ fresh_request r.chunks []) }
     {
         let held = Held::make(alloc)?;
+        let chunks = Chunks::make(alloc)?;
         Ok(Request {
             held,
+            chunks,
             reading: Reading::Head,
             persists: false,
             asks_head: false,
@@ -49,11 +56,12 @@ impl Request {
     }
 
     // The request that begins with these bytes, which are held. It takes no memory.
-    pub(crate) fn behind(held: Held) -> Request
-        ensures { Decides (fresh_request held) result result.reading }
+    pub(crate) fn behind(held: Held, chunks: Chunks) -> Request
+        ensures { Decides (fresh_request chunks held) result }
     {
         let mut request = Request {
             held,
+            chunks,
             reading: Reading::Head,
             persists: false,
             asks_head: false,
@@ -69,19 +77,34 @@ impl Request {
         matches!(self.reading, Reading::Head)
     }
 
+    // Its body comes in chunks, and the last `fresh` bytes that are held were not looked at.
+    pub(crate) fn follow(&mut self, fresh: usize)
+        requires { fresh ≤ length self.old.held }
+        ensures { GoesOnChunked fresh self.old self.new }
+    {
+        let seen = self.held.len() - fresh;
+        match self.chunks.follow(self.held.bytes().split_at(seen).1) {
+            Followed::On => self.reading = Reading::Chunks,
+            Followed::Ended(count) => self.reading = Reading::Known((seen + count) as u64),
+            Followed::Never => self.reading = Reading::Open,
+        }
+    }
+
     // Its head is known.
     fn begin(&mut self, found: FoundHead)
         requires found { IsHeadFound self.old.held found }
         requires fits { length self.old.held ≤ head_limit }
-        ensures { Decides self.old self.new self.new.reading }
+        ensures { Decides self.old self.new }
     {
+        self.persists = found.persists;
+        self.asks_head = found.asks_head;
         match found.end {
-            RequestEnd::Sized(size) => {
-                self.reading = Reading::Known(found.used as u64 + size);
-                self.persists = found.persists;
-                self.asks_head = found.asks_head;
+            RequestEnd::Sized(size) => self.reading = Reading::Known(found.used as u64 + size),
+            RequestEnd::Chunked => {
+                self.chunks.restart();
+                let fresh = self.held.len() - found.used;
+                self.follow(fresh);
             }
-            RequestEnd::Chunked => self.reading = Reading::Open,
             RequestEnd::Unknown => self.reading = Reading::Open,
         }
     }
@@ -91,7 +114,7 @@ impl Request {
         requires head { self.old.reading ≡ Reading.Head }
         requires fresh { fresh ≤ length self.old.held }
         requires lacks { LacksRequest (before_last fresh self.old.held) }
-        ensures { Decides self.old self.new self.new.reading }
+        ensures { Decides self.old self.new }
     {
         if !self.held.may_end(fresh) {
             return;

@@ -1,13 +1,13 @@
 //! A link that shows one request of a client, and then its end.
 ghost use Rattle.std.specs.Prelude.{◌≡◌, ◌+◌, ◌<◌, ◌≤◌, length, true, IfOk};
 ghost use Rattle.ts_link.specs.Counts.{one_more};
-ghost use Rattle.ts_link.specs.Link.{Reads, Writes, all_of};
+ghost use Rattle.ts_link.specs.Link.{Reads, Writes};
 ghost use Rattle.ts_link.specs.LinkAnswers.{writes_after};
 ghost use Rattle.ts_session.specs.Course.{IsSound, SpanGoes, is_dropped, may_go_on, span_look, span_on, span_same};
 ghost use Rattle.ts_session.specs.Course.{span_still, waiting};
 ghost use Rattle.ts_session.specs.Limits.{most_places};
 ghost use Rattle.ts_session.specs.Reading.{IsUnread, PollsHeld, StaysUnread, poll_again, poll_failed};
-ghost use Rattle.ts_session.specs.Session.{DropsLine, GoesBehind, IsNew, IsNext, IsSession, MayContinue, PollsSpan};
+ghost use Rattle.ts_session.specs.Session.{DropsLine, GoesBehind, IsNew, IsSession, MayContinue, PollsSpan};
 
 use crate::course::{Course, MOST_PLACES, Polled};
 use crate::reading::{poll_request, read_request};
@@ -22,11 +22,11 @@ use ts_link::{Got, Link, NoMemory, Put, Sourced};
 /// A client's link that shows one request of its connection, the body included, and then the end. Of what is
 /// written to it the client does not take the line `connection: close` where the connection may go on.
 #[derive(Drop)]
-pub struct Span<C: Link> {
+pub struct Span<C: Sourced> {
     course: Course<C>,
 }
 
-impl<C: Link> Model for Span<C> {
+impl<C: Sourced> Model for Span<C> {
     ghost use Rattle.ts_session.specs.declared.course.Course.{Course};
     ghost use Rattle.ts_session.specs.Course.{IsSound};
 
@@ -37,12 +37,13 @@ impl<C: Link> Model for Span<C> {
     ghost invariant = { λ s. IsSound C.look C.tells s.course };
 }
 
-impl<C: Link + Drop> Span<C> {
+impl<C: Sourced + Drop> Span<C> {
     /// The span of a client's first request. It takes all the memory that it and the spans behind it ever need:
-    /// the room of a head of 16,384 bytes.
+    /// the rooms of a head and of a trailer section, of 16,384 bytes each.
     pub fn make(alloc: Global, client: C) -> Result<Span<C>, NoMemory>
         ensures { IfOk result (λ s. IsNew C.look C.tells client s) }
     {
+        client.known();
         let request = Request::make(alloc)?;
         let begun = Snapshot::of(&client);
         let cut = Snapshot::of(&client);
@@ -72,6 +73,13 @@ impl<C: Link + Drop> Span<C> {
         ensures goes { SpanGoes C.goes self.old self.new }
     {
         poll_course(&mut self.course)
+    }
+
+    /// The place of its request in the session, counted from 1.
+    pub fn place(&self) -> u32
+        ensures { result ≡ self.now.place }
+    {
+        self.course.place
     }
 
     /// Whether the connection may go on behind this request: its line `connection: close` was dropped.
@@ -113,19 +121,8 @@ impl<C: Link + Drop> Span<C> {
     }
 }
 
-impl<C: Sourced> Span<C> {
-    /// What holds of every one whose client tells, and whose source is all that it gives: what the span gave and may
-    /// still give is the whole request that its source begins with, or all of it.
-    pub fn known(&self)
-        ensures { C.tells ≡ true → IsNext (span_look C.look C.tells self.now).source
-            (all_of (span_look C.look C.tells self.now)) }
-    {
-        self.course.client.known();
-    }
-}
-
 // Polls for the request.
-fn poll_course<C: Link>(course: &mut Course<C>) -> Polled
+fn poll_course<C: Sourced>(course: &mut Course<C>) -> Polled
     requires sound { IsSound C.look C.tells course.old }
     requires unread { IsUnread course.old.request }
     ensures holds { PollsHeld C.tells result course.new.request (C.look course.new.client) }
@@ -146,7 +143,7 @@ fn counted(calls: u64) -> u64
 }
 
 // Reads some of the request.
-fn read_course<C: Link>(course: &mut Course<C>, into: &mut [u8]) -> Got
+fn read_course<C: Sourced>(course: &mut Course<C>, into: &mut [u8]) -> Got
     requires room { 0 < length into.old }
     requires sound { IsSound C.look C.tells course.old }
     ensures reads { Reads C.tells (span_look C.look C.tells course.old)
@@ -182,7 +179,7 @@ fn writes_after(put: Put, writes: u64) -> u64
 }
 
 // Writes some of the response.
-fn write_course<C: Link>(course: &mut Course<C>, piece: &[u8]) -> Put
+fn write_course<C: Sourced>(course: &mut Course<C>, piece: &[u8]) -> Put
     requires some { 0 < length piece.now }
     requires sound { IsSound C.look C.tells course.old }
     ensures writes { Writes C.tells (span_look C.look C.tells course.old)
@@ -203,13 +200,14 @@ fn write_course<C: Link>(course: &mut Course<C>, piece: &[u8]) -> Put
         rule,
         piece,
     );
+    course.client.known();
     let writes = writes_after(put, course.writes);
     course.writes = writes;
     put
 }
 
 // The course of the next request.
-fn next_course<C: Link>(course: Course<C>) -> Course<C>
+fn next_course<C: Sourced>(course: Course<C>) -> Course<C>
     requires sound { IsSound C.look C.tells course }
     requires dropped { is_dropped course.response.sending ≡ true }
     ensures behind { C.tells ≡ true
@@ -222,14 +220,14 @@ fn next_course<C: Link>(course: Course<C>) -> Course<C>
 {
     let Course {
         client,
-        request: Request { held, .. },
+        request: Request { held, chunks, .. },
         place,
         ..
     } = course;
     let begun = Snapshot::of(&client);
     let cut = Snapshot::of(&client);
     let surplus = held.len();
-    let request = Request::behind(held);
+    let request = Request::behind(held, chunks);
     let response = Response::new();
     Course {
         client,
@@ -244,7 +242,7 @@ fn next_course<C: Link>(course: Course<C>) -> Course<C>
     }
 }
 
-impl<C: Link> Link for Span<C> {
+impl<C: Sourced> Link for Span<C> {
     ghost tells = { C.tells };
 
     ghost look = { span_look C.look C.tells };
@@ -279,4 +277,10 @@ impl<C: Link> Link for Span<C> {
     ghost goes_still = { λ s t g. span_still C.goes C.still C.goes_still s t g };
 
     ghost still_on = { λ s t u g h. span_on C.still C.still_on s t u g h };
+}
+
+impl<C: Sourced> Sourced for Span<C> {
+    fn known(&self) {
+        let _ = &self.course;
+    }
 }

@@ -68,7 +68,7 @@ impl<O: Sourced> Sourced for Spanned<O> {
     }
 }
 
-impl<C: Link, O: Link> Upstream<Span<C>> for Spanned<O> {
+impl<C: Sourced, O: Link> Upstream<Span<C>> for Spanned<O> {
     ghost paired = { λ c s. ⊤ };
 
     ghost refuses = { λ s list. ⊥ };

@@ -42,6 +42,24 @@ pub fn client(rt: &(impl AllocGlobal + Abort), bytes: &[u8], pace: Pace) -> MemL
     )
 }
 
+/// A client that gives these bytes in two pieces, cut at this place, and takes all at once.
+pub fn client_cut(rt: &(impl AllocGlobal + Abort), bytes: &[u8], at: usize) -> MemLink {
+    let alloc = rt.alloc();
+    let mut cuts = Vec::new(alloc);
+    cuts.push(at.min(1_000_000) as u32).expect(rt, MEMORY);
+    cuts.push(1_000_000).expect(rt, MEMORY);
+    MemLink::make(
+        alloc,
+        Octets::copy_of(alloc, bytes).expect(rt, MEMORY),
+        cuts,
+        1_000_000,
+        Vec::new(alloc),
+        Vec::new(alloc),
+        Vec::new(alloc),
+        Vec::new(alloc),
+    )
+}
+
 /// All that a link gives, until its end, or until it fails.
 pub fn read_all<L: Link>(rt: &(impl AllocGlobal + Abort), link: &mut L) -> Vec<u8> {
     let mut text = Vec::new(rt.alloc());

@@ -106,6 +106,31 @@ fn two_requests_of_one_piece_are_carried_one_behind_the_other(rt: HostRuntime) {
     }
 }
 
+// A request whose body comes in chunks, with a trailer field.
+const POST: &[u8] =
+    b"POST / HTTP/1.1\r\nHost: a\r\nTransfer-Encoding: chunked\r\n\r\n3\r\nabc\r\n0\r\nx-a: 1\r\n\r\n";
+
+#[test]
+fn requests_are_carried_behind_bodies_in_chunks(rt: HostRuntime) {
+    let mut input = requests(&rt, POST, 2);
+    input.extend_from_slice(GET).expect(&rt, MEMORY);
+    input.extend_from_slice(POST).expect(&rt, MEMORY);
+    let wanted = Carried {
+        requests: 4,
+        bytes: 258,
+        taken: 220,
+    };
+    for (piece, most) in [(1_000u32, 100usize), (1, 1), (20, 20), (77, 55), (78, 74)] {
+        for part in [4096usize, 1, 19, 54, 71] {
+            let got = carry(&rt, &input, paced(piece, most), part);
+            assert!(&rt;
+                got == wanted,
+                "in pieces of {piece}, {most} a write, parts of {part}"
+            );
+        }
+    }
+}
+
 #[test]
 fn a_session_carries_1000_requests(rt: HostRuntime) {
     let input = requests(&rt, GET, 1_001);

@@ -11,20 +11,20 @@ const GET: &[u8] = b"GET / HTTP/1.1\r\nHost: a\r\n\r\n";
 
 const HEAD: &[u8] = b"HEAD / HTTP/1.1\r\nHost: a\r\n\r\n";
 
-// An answer whose body has a length.
-const SIZED: &[u8] =
+/// An answer whose body has a length.
+pub const SIZED: &[u8] =
     b"HTTP/1.1 200 OK\r\nvia: 1.1 tsx\r\ncontent-length: 3\r\nconnection: close\r\n\r\nabc";
 
 // One that ends where the connection does.
 const OPEN: &[u8] = b"HTTP/1.1 200 OK\r\nvia: 1.1 tsx\r\nconnection: close\r\n\r\n";
 
-// What a client gives and what it is answered; how many bytes the span gives, how many the client takes, and
-// whether the connection may go on.
-type Case = (&'static [u8], &'static [u8], usize, usize, bool);
+/// What a client gives and what it is answered; how many bytes the span gives, how many the client takes, and
+/// whether the connection may go on.
+pub type Case = (&'static [u8], &'static [u8], usize, usize, bool);
 
-// What came of a case, where the answer is written in pieces of at most `piece` bytes: how many bytes the span gave,
-// how many the client took, and whether the connection may go on.
-fn outcome(
+/// What came of a case, where the answer is written in pieces of at most `piece` bytes: how many bytes the span gave,
+/// how many the client took, and whether the connection may go on.
+pub fn outcome(
     rt: &(impl AllocGlobal + Abort),
     case: &Case,
     pace: Pace,

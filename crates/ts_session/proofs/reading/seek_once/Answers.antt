@@ -1,6 +1,7 @@
 -- Each answer of one read of the client for the head.
+use Rattle.std.proofs.Common.{ap, arith, inr, length}
 use Rattle.ts_session.proofs.Giving.{filled_ended, filled_fails, filled_fresh, filled_known, filled_waits}
-use Rattle.ts_session.proofs.Giving.{head_holds}
+use Rattle.ts_session.proofs.Giving.{filled_more, head_holds}
 use Rattle.ts_session.proofs.reading.seek_once.Goals as goal
 
 pub fill-requires : goal.fill-requires
@@ -27,6 +28,12 @@ returns-in-Bytes-clause-room g c =
     (filled_known g.C.Link.tells c.args.request.now c.fill.new.self (g.C.Link.look c.args.client.now)
     (g.C.Link.look c.fill.new.client) c.requires.head c.requires.room _ c.in-Bytes.ensures.fills
     c.decide.new.self c.decide.ensures).1
+
+pub returns-in-Bytes-clause-on : goal.returns-in-Bytes-clause-on
+returns-in-Bytes-clause-on g c =
+    let more = filled_more g.C.Link.tells c.args.request.now c.fill.new.self (g.C.Link.look c.args.client.now)
+    (g.C.Link.look c.fill.new.client) c.requires.head c.requires.room c.in-Bytes.count c.in-Bytes.ensures.fills in
+    inr (omega (arith, more, ap length c.decide.ensures.held_is))
 
 pub returns-in-End-clause-moves : goal.returns-in-End-clause-moves
 returns-in-End-clause-moves g c =

@@ -1,6 +1,6 @@
 -- The next request begins where this one ended.
 use Rattle.std.proofs.Common.{refl, ◌+◌}
-use Rattle.ts_session.proofs.Ends.{goes_behind, next_held, next_sound, next_unread, place_within}
+use Rattle.ts_session.proofs.Ends.{goes_behind, next_sound, place_within}
 use Rattle.ts_session.proofs.span.next_course.Goals as goal
 
 pub returns-clause-behind : goal.returns-clause-behind
@@ -18,7 +18,7 @@ returns-clause-behind g c tell =
       writes = 0;
     })
     refl c.of-begun.ensures c.len-surplus.ensures
-    (next_held c.args.course.request.held c.behind-request.result c.behind-request.ensures)
+    c.behind-request.ensures.held_is
     c.new-response.ensures
 
 pub returns-clause-within : goal.returns-clause-within
@@ -26,8 +26,7 @@ returns-clause-within g c =
     place_within g.C.Link.look g.C.Link.tells c.args.course c.requires.sound c.requires.dropped
 
 pub returns-clause-unread : goal.returns-clause-unread
-returns-clause-unread g c =
-    next_unread c.args.course.request.held c.behind-request.result c.behind-request.ensures
+returns-clause-unread g c = c.behind-request.ensures.unread
 
 pub returns-clause-sound : goal.returns-clause-sound
 returns-clause-sound g c =

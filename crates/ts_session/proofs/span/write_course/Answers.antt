@@ -26,4 +26,5 @@ returns-clause-sound g c =
     let s = c.args.course.now in
     written_sound g.C.Link.look g.C.Link.tells c.may_go_on.result s write.new.client write.new.response
     (record s { cut = write.new.cut }) c.writes_after-writes.result write.result c.args.piece.now
-    c.requires.sound c.may_go_on.ensures write.ensures.writes write.ensures.within
+    c.requires.sound c.may_go_on.ensures write.ensures.writes (λ tell whole. c.known.ensures tell)
+    write.ensures.within

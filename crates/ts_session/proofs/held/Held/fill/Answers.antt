@@ -29,6 +29,7 @@ returns-clause-fills g c =
     rw (← c.self.view_is) (record {
       into = reads.into;
       reads = reads.reads;
+      whole = reads.whole;
       held_is = ap (λ k. slice_range new 0 ((x.to - x.from) + k)) c.count_of.ensures
           ∙ slice_more x.room.items room new reads.into x.from x.to _ within c.move_front.ensures.front
           reads.room_is;

@@ -2,7 +2,7 @@ use Rattle.std.proofs.Common.{[], false}
 use Rattle.ts_session.specs.Course.{HoldsHead}
 use Rattle.ts_session.specs.Reading.{MovesOn}
 use Rattle.ts_session.proofs.Giving.{heading_left}
-use Rattle.ts_session.proofs.reading.seek.Given as goal
+use Rattle.ts_session.proofs.reading.seek_head.Given as goal
 
 -- nothing was given yet
 abbrev pub invariant-head : goal.invariant-head
