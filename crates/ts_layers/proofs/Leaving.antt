@@ -20,7 +20,7 @@ use Rattle.ts_txn.specs.Making.{ArePaired, link_if}
 use Rattle.ts_txn.specs.World.{IsTxnOf}
 use Rattle.ts_txn.specs.declared.txn.Txn.{Txn}
 use Rattle.ts_txn.specs.declared.txn.TxnTag.{TxnTag}
-use Rattle.ts_layers.specs.Kept.{IsKept}
+use Rattle.ts_layers.specs.Kept.{IsKept, KeepsNone}
 use Rattle.ts_layers.specs.Layers.{AreLayersOver, HasChosen, HasKept, IsLayerOver, StaysOver, holds_origin}
 use Rattle.ts_layers.specs.Layers.{is_handed, origin_inside}
 use Rattle.ts_layers.specs.Links.{Carried, ClientEnd, OriginEnd, carried_link, client_link, lifted_if}
@@ -119,11 +119,13 @@ has_chosen {O} origin c e is there answered unused same = record {
 
 -- and so is what was kept
 pub has_kept : {O P : Type 0} (origin : link.Ghosts O) (taken : Vec ℕ Global) (k : Carried O)
-    (e : OriginEnd O P) → k ≡ e.origin → taken.items ≡ k.kept → IsKept origin.tells k.keeps ((carried_link origin).look k) k.kept
+    (e : OriginEnd O P) → k ≡ e.origin → taken.items ≡ k.kept
+    → IsKept origin.tells k.keeps ((carried_link origin).look k) k.kept → KeepsNone k.keeps k.kept
     → HasKept origin (Some taken) e
-has_kept {O} origin taken k e is bytes all = record {
+has_kept {O} origin taken k e is bytes all none = record {
   bytes = ap Some (bytes ∙ ap (λ (x : Carried O). x.kept) is);
   all = subst (λ (x : Carried O). IsKept origin.tells x.keeps ((carried_link origin).look x) x.kept) is all;
+  none = subst (λ (x : Carried O). KeepsNone x.keeps x.kept) is none;
 }
 
 -- ---- they belong together at the end

@@ -1,6 +1,6 @@
 -- A link that keeps what it takes, where that is asked for: the link inside, as a link and as the link to an
 -- origin.
-use Rattle.std.specs.Prelude.{◌≡◌, ℕ, Bool, true, List, [], ◌++◌, take}
+use Rattle.std.specs.Prelude.{◌≡◌, ℕ, Bool, true, false, List, [], ◌++◌, take}
 use Rattle.ts_link.specs.Link.{Look}
 use Rattle.ts_link.specs.declared.link.Link as link
 use Rattle.ts_link.specs.declared.link.Put.{Put}
@@ -24,6 +24,10 @@ KeepsTaken l bytes = l.carried ≡ [] → l.taken ≡ bytes
 -- so it is kept of a link that tells, where that is asked for
 abbrev pub IsKept : Bool → Bool → Look → List ℕ → Type 0
 IsKept tells keeps l bytes = tells ≡ true → keeps ≡ true → KeepsTaken l bytes
+
+-- nothing is kept where that is not asked for
+abbrev pub KeepsNone : Bool → List ℕ → Type 0
+KeepsNone keeps bytes = keeps ≡ false → bytes ≡ []
 
 -- what a write keeps: what the link inside took of the piece
 abbrev pub KeepsPut : Put → List ℕ → List ℕ → List ℕ → Type 0

@@ -32,7 +32,7 @@ use Rattle.ts_upstream.specs.declared.upstream.Upstream as upstream
 use Rattle.ts_exchange.specs.Ends.{AreNewEnds, Ends, IsTagBetween}
 use Rattle.ts_exchange.specs.Left.{Exchanges, IsApart, IsBetween}
 use Rattle.ts_exchange.specs.declared.exchange.Promise.{Promise}
-use Rattle.ts_layers.specs.Kept.{IsKept, fresh_kept}
+use Rattle.ts_layers.specs.Kept.{IsKept, KeepsNone, fresh_kept}
 use Rattle.ts_layers.specs.Links.{ClientEnd, OriginEnd, carried_link, carried_origin, client_link}
 use Rattle.ts_layers.specs.Links.{lifted_if, lifted_look, origin_link, origin_uploads, unlifted_if}
 use Rattle.ts_layers.specs.Links.{watched_link, watched_look}
@@ -139,11 +139,12 @@ pub record HasChosen {O P : Type 0} (origins : link.Ghosts O) (over : OriginEnd 
       → IsUnused (inside (lifted_look origins.look) over.origin.inner.handed.value)
   pub same : KeepsOrigin over.origin.inner
 
--- What was kept: it is all that was taken in the origin's place, where that was asked for.
+-- What was kept: it is all that was taken in the origin's place, where that was asked for, and else nothing.
 pub record HasKept {O P : Type 0} (origins : link.Ghosts O) (taken : Option (Vec ℕ Global))
     (over : OriginEnd O P) : Type 0 where
   pub bytes : option_map (λ (v : Vec ℕ Global). v.items) taken ≡ Some over.origin.kept
   pub all : IsKept origins.tells over.origin.keeps ((carried_link origins).look over.origin) over.origin.kept
+  pub none : KeepsNone over.origin.keeps over.origin.kept
 
 -- It is the end over this origin, whatever was called on it: its request lines and its intercept lines are
 -- those of the setup, it keeps what it takes, or does not, and this origin was handed in.

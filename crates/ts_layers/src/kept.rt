@@ -1,9 +1,9 @@
 //! A link that keeps what it takes, where that is asked for.
-ghost use Rattle.std.specs.Prelude.{◌≡◌, ◌<◌, ◌≤◌, ◌+◌, ◌++◌, [], length, true, refl, OnOk};
+ghost use Rattle.std.specs.Prelude.{◌≡◌, ◌<◌, ◌≤◌, ◌+◌, ◌++◌, [], length, true, false, refl, OnOk};
 ghost use Rattle.std.specs.Vec.{vec_len, vec_capacity};
 ghost use Rattle.std.proofs.Common.{◌∙◌};
 ghost use Rattle.ts_link.specs.Link.{Writes};
-ghost use Rattle.ts_layers.specs.Kept.{IsKept, KeepsPut, fresh_kept};
+ghost use Rattle.ts_layers.specs.Kept.{IsKept, KeepsNone, KeepsPut, fresh_kept};
 
 use std::alloc::Global;
 use std::marker::Model;
@@ -20,13 +20,14 @@ pub struct Kept<O: Link> {
 }
 
 impl<O: Link> Model for Kept<O> {
-    ghost use Rattle.ts_layers.specs.Kept.{IsKept, Keeping};
+    ghost use Rattle.ts_layers.specs.Kept.{IsKept, Keeping, KeepsNone};
 
     ghost Value = { Keeping O };
 
     ghost view = { λ k. record { inner = k.inner; keeps = k.keeps; kept = k.kept.items } };
 
-    ghost invariant = { λ k. IsKept O.tells k.keeps (O.look k.inner) k.kept.items };
+    ghost invariant = { λ k. IsKept O.tells k.keeps (O.look k.inner) k.kept.items
+        × KeepsNone k.keeps k.kept.items };
 }
 
 // Makes room for so many bytes more.
@@ -54,6 +55,7 @@ fn write_kept<O: Link>(inner: &mut O, keeps: bool, kept: &mut Vec<u8>, piece: &[
     ensures writes { Writes O.tells (O.look inner.old) (O.look inner.new) result piece.now }
     ensures goes { O.goes inner.old inner.new }
     ensures keeps { keeps ≡ true → KeepsPut result piece.now kept.old.items kept.new.items }
+    ensures unasked { keeps ≡ false → kept.new.items ≡ kept.old.items }
 {
     if !keeps {
         return inner.write(piece);
@@ -100,6 +102,7 @@ impl<O: Link> Kept<O> {
         ensures inner { result.0 ≡ self.inner }
         ensures bytes { result.1.items ≡ self.kept }
         ensures kept { IsKept O.tells self.keeps (O.look self.inner) self.kept }
+        ensures none { KeepsNone self.keeps self.kept }
     {
         let Kept { inner, kept, .. } = self;
         (inner, kept)

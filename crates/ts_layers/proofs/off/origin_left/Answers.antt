@@ -16,4 +16,4 @@ pub returns-clause-kept : goal.returns-clause-kept
 returns-clause-kept g c =
     let kept = c.into_parts-chosen in
     has_kept g.O.Link kept.result.1 c.into_origin.result c.args.end c.into_origin.ensures kept.ensures.bytes
-    kept.ensures.kept
+    kept.ensures.kept kept.ensures.none
