@@ -65,15 +65,22 @@ use Rattle.ts_relay.proofs.BodyTimes.{made_acts}
 
 -- what passes a body on is fresh where its chain was just made
 pub fresh_relay : {P L : Type 0} (stage : transform.Ghosts P L) (setup : Setup) (q : RequestHead)
-    (h : ResponseHead) (d : DrivenChain P) (place : Place) (ps : List P) (framing : Framing)
+    (h : ResponseHead) (d : DrivenChain P) (place : Place) (pauses : Bool) (ps : List P) (framing : Framing)
     → (d.table.items ≡ []) × (d.running ≡ false)
     → d.chain ≡ record { first = []; stages = map (fresh_stage stage.soon stage.pause) ps; given = false }
     → Composes stage.rest stage.soon ps d.chain
     → ((z : List ℕ) → compose stage.rest ps z ≡ compose_lines (if_body framing (lines_for setup h)) z)
     → ((z : List ℕ) → soon_compose stage.soon ps z ≡ so_far (if_body framing (lines_for setup h)) z)
     → framing ≡ framing_of q h → IsFed framing [] [] place
-    → IsFreshRelay stage setup q h (record { driven = d; body = place; reader = None; short = None })
-fresh_relay stage setup q h d place ps framing none made flows composes soon is fed = record {
+    → IsFreshRelay stage setup q h (record {
+      driven = d;
+      body = place;
+      reader = None;
+      short = None;
+      pauses = pauses;
+      fed = 0;
+    })
+fresh_relay stage setup q h d place pauses ps framing none made flows composes soon is fed = record {
   sends = subst (λ (f : Framing). Sends stage.rest stage.soon (if_body f (lines_for setup h)) [] [] d.chain)
       is
       (record {

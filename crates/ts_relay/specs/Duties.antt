@@ -1,6 +1,7 @@
 -- Who must work while a body is passed on, and that each duty has an event of a continuation that does it
 -- (Developer's Guide, "Continuations" and "Transformations").
-use Rattle.std.specs.Prelude.{◌≡◌, ◌≢◌, ℕ, ◌+◌, ◌≤◌, ◌⊎◌, List, [], ◌∷◌, length, Bool, true, Option, None, ⊤}
+use Rattle.std.specs.Prelude.{◌≡◌, ◌≢◌, ℕ, ◌+◌, ◌≤◌, ◌⊎◌, List, [], ◌∷◌, length, Bool, true, false}
+use Rattle.std.specs.Prelude.{Option, None, ⊤}
 use Rattle.ts_journal.specs.declared.entry.TheConstants.{GREATEST}
 use Rattle.ts_journal.specs.declared.entry.Event.{Event}
 use Rattle.ts_journal.specs.declared.entry.Pending.{Pending}
@@ -28,10 +29,15 @@ MustReadOn r = (r.short ≡ None) × MustRead r.driven.chain
 abbrev pub MustEnd : {P : Type 0} → Relay P → Type 0
 MustEnd r = IsFinished r.driven.chain ⊎ ((r.short ≢ None) × Rests r.driven.chain)
 
--- the whole head waits for the first bytes of its body: none was framed yet, and the reader has some at hand
+-- the first bytes of a body are on their way: the reader has some at hand, or a stage of a chain that never
+-- pauses has work at once, and the chain was given no more pieces than it has stages
+abbrev pub IsUnderWay : {P : Type 0} → View → Relay P → Type 0
+IsUnderWay v r = ((v.origin.inbox ≢ []) × MustReadOn r)
+    ⊎ ((r.pauses ≡ false) × (r.fed ≤ length r.driven.chain.stages) × (Rests r.driven.chain → ⊥))
+
+-- the whole head waits for the first bytes of its body: none was framed yet, and some are on their way
 abbrev pub HoldsHead : {P : Type 0} → View → Relay P → Type 0
-HoldsHead v r = (length v.client.outbox ≡ v.sent.head) × (v.sent.cuts.items ≡ []) × (v.origin.inbox ≢ [])
-    × MustReadOn r
+HoldsHead v r = (length v.client.outbox ≡ v.sent.head) × (v.sent.cuts.items ≡ []) × IsUnderWay v r
 
 -- what waits for the client must be written
 abbrev pub MustWriteOut : {P : Type 0} → View → Relay P → Type 0

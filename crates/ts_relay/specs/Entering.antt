@@ -1,6 +1,6 @@
 -- How a body begins to be passed on: the transforms of the lines that act on it are made, and the client's
 -- head is queued (Developer's Guide, "Transformations").
-use Rattle.std.specs.Prelude.{◌≡◌, ℕ, ◌+◌, ◌≤◌, ◌⊎◌, List, [], true, false, Option, None, ⊤}
+use Rattle.std.specs.Prelude.{◌≡◌, ℕ, ◌+◌, ◌<◌, ◌≤◌, ◌⊎◌, List, [], length, true, false, Option, None, ⊤}
 use Rattle.std.specs.Arc.{arc_value}
 use Rattle.ts_config.specs.declared.setup.Setup.{Setup}
 use Rattle.ts_hooks.specs.declared.txn_end.TxnEnd.TheVariants as E
@@ -9,7 +9,8 @@ use Rattle.ts_group.specs.Context.{Context}
 use Rattle.ts_link.specs.Link.{all_of}
 use Rattle.ts_link.specs.declared.link.Link as link
 use Rattle.ts_upstream.specs.declared.upstream.Upstream as upstream
-use Rattle.ts_transform.specs.Flow.{ChainState, EndsInOrder}
+use Rattle.ts_transform.specs.Flow.{ChainState, EndsInOrder, pause_at}
+use Rattle.ts_transform.specs.declared.pump.Stage.{Stage}
 use Rattle.ts_transform.specs.Driving.{ActsWithin, IsOfStageIf}
 use Rattle.ts_transform.specs.Driven.{IsDrivenWhile}
 use Rattle.ts_transform.specs.Seats.{KeepsSeated}
@@ -44,6 +45,16 @@ pub record IsUnbegun {P : Type 0} (r : Relay P) : Type 0 where
   pub going : r.driven.chain.given ≡ false
   pub goes_on : r.short ≡ None
   pub in_order : EndsInOrder true r.driven.chain.stages
+
+-- no stage pauses between two of its events
+abbrev pub PausesNowhere : {P : Type 0} → (P → ℕ) → List (Stage P) → Type 0
+PausesNowhere pause ss = (j : ℕ) → j < length ss → pause_at pause ss j ≡ 0
+
+-- it is known of a body whether a stage that it goes through pauses, and no piece of it was fed
+pub record KnowsPauses {P : Type 0} (pause : P → ℕ) (r : Relay P) : Type 0 where
+  pub some : r.pauses ≡ true → PausesNowhere pause r.driven.chain.stages → ⊥
+  pub none : r.pauses ≡ false → PausesNowhere pause r.driven.chain.stages
+  pub unfed : r.fed ≡ 0
 
 -- The body of this response is passed on through its lines, and nothing was begun.
 pub record IsFreshRelay {P L : Type 0} (stage : transform.Ghosts P L) (setup : Setup) (q : RequestHead)

@@ -33,6 +33,8 @@ pub fn close_relay<P: Transform + Drop>(relay: Relay<P>, cx: &mut Cx)
         body: _,
         reader,
         short: _,
+        pauses: _,
+        fed: _,
     } = relay;
     let mut reader = reader;
     destroy_end(&mut reader, cx);

@@ -1,7 +1,7 @@
 //! Who must work while a body is passed on.
 ghost use Rattle.std.specs.Prelude.{◌↔◌, IsTrue};
 ghost use Rattle.ts_phases.specs.View.{view_of};
-ghost use Rattle.ts_relay.specs.Duties.{HoldsHead, MustReadOn, MustWriteOut, TellsDuty};
+ghost use Rattle.ts_relay.specs.Duties.{HoldsHead, IsUnderWay, MustReadOn, MustWriteOut, TellsDuty};
 
 use crate::feed::holds_body;
 use crate::relay::Relay;
@@ -10,8 +10,25 @@ use ts_phases::Core;
 use ts_transform::Transform;
 use ts_upstream::Upstream;
 
-// Whether the whole head waits for the first bytes of its body: none was framed yet, and the reader has some
-// at hand.
+// Whether the first bytes of a body are on their way: the reader has some at hand, or a stage of a chain that
+// never pauses has work at once, and the chain was given no more pieces than it has stages.
+fn is_under_way<C: Link, O: Upstream<C>, P: Transform + Drop>(
+    core: &Core<C, O>,
+    relay: &Relay<P>,
+) -> bool
+    ensures { IsTrue result ↔ IsUnderWay (view_of C.Link O.Link core.now) relay.now }
+{
+    if holds_body(core) && must_read_on(relay) {
+        return true;
+    }
+    if relay.pauses || relay.fed > relay.driven.chain().stages() as u64 {
+        return false;
+    }
+    !relay.driven.chain().rests()
+}
+
+// Whether the whole head waits for the first bytes of its body: none was framed yet, and some are on their
+// way.
 fn holds_head<C: Link, O: Upstream<C>, P: Transform + Drop>(
     core: &Core<C, O>,
     relay: &Relay<P>,
@@ -24,10 +41,7 @@ fn holds_head<C: Link, O: Upstream<C>, P: Transform + Drop>(
     if !core.sent.cuts.is_empty() {
         return false;
     }
-    if !holds_body(core) {
-        return false;
-    }
-    must_read_on(relay)
+    is_under_way(core, relay)
 }
 
 // Whether what waits for the client must be written.

@@ -1,5 +1,6 @@
 //! How a body comes to the chain: the reader of bodies is fed with what waits of the origin's bytes.
 ghost use Rattle.std.specs.Prelude.{◌≡◌, ◌≢◌, [], true, false};
+ghost use Rattle.ts_link.specs.Counts.{one_more_if};
 ghost use Rattle.ts_phases.specs.View.{GoesIf, is_dialed, side_if, view_of};
 ghost use Rattle.ts_relay.specs.Feeding.{DrainsOrigin, FeedsTo, OnGoes, short_if};
 ghost use Rattle.ts_passing.specs.Feeding.{EndsHere, GetsPart};
@@ -87,6 +88,16 @@ fn short_if(state: BodyState, short: Option<Short>) -> Option<Short>
     }
 }
 
+// A count after one more, where there was one.
+fn count_if(counts: bool, count: u64) -> u64
+    ensures { result ≡ one_more_if counts count }
+{
+    if counts {
+        return count.saturating_add(1);
+    }
+    count
+}
+
 // Feeds the first block of what waits to the reader of bodies, and gives the chain the part of it that is
 // body. Behind a bad one no more of it comes.
 fn feed_some<P: Transform + Drop>(
@@ -108,6 +119,7 @@ fn feed_some<P: Transform + Drop>(
     let BodyStep::Goes = give_part(&mut relay.driven, part, fed.state, cx) else {
         return BodyStep::Lacks;
     };
+    relay.fed = count_if(!part.is_empty(), relay.fed);
     inbox.take(fed.taken);
     relay.short = short_if(fed.state, relay.short);
     BodyStep::Goes

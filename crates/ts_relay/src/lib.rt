@@ -35,8 +35,10 @@
 //!    once the chain has given all, it frames the end behind that, and leaves the body; or it writes once of
 //!    what waits. The head of a response goes into a block of that room. So a head and the first bytes of its
 //!    body go out in one write, and with them the end of a small body, where they are at hand: while none of
-//!    the head was written, none of the body was framed and the reader has bytes to feed, the head waits for
-//!    them (`HoldsHead`). A body that has still to come keeps no head back.
+//!    the head was written and none of the body was framed, the head waits for what is on its way
+//!    (`HoldsHead`): bytes that the reader has to feed, or work that a stage has at once. A body that has
+//!    still to come keeps no head back, nor does a chain with a stage that pauses, nor one that was given
+//!    more pieces than it has stages: the first has come through by then, or a line holds it back.
 //! 4. Of a body that is cut or bad the reader notes which (`Relay::short`) and reads no more. The stages work
 //!    and the client's side writes until neither has anything to do. Has the chain finished by then, since a
 //!    limit was reached, the end is framed as ever; else the body is left with no end framed, and the client

@@ -1,10 +1,10 @@
 //! How the chain of a body is made: the transforms of the lines that act on a response, in their order.
-ghost use Rattle.std.specs.Prelude.{[], IfOk};
+ghost use Rattle.std.specs.Prelude.{◌≡◌, [], true, false, IfOk};
 ghost use Rattle.ts_wire.specs.Place.{IsFed};
 ghost use Rattle.ts_block.specs.Acting.{acting};
 ghost use Rattle.ts_block.specs.Relayed.{if_body};
 ghost use Rattle.ts_block.specs.Block.{body_lines, lines_for};
-ghost use Rattle.ts_relay.specs.Entering.{IsFreshRelay};
+ghost use Rattle.ts_relay.specs.Entering.{IsFreshRelay, KnowsPauses, PausesNowhere};
 ghost use Rattle.ts_passing.specs.Lines.{ActsAsLines};
 ghost use Rattle.ts_passing.specs.Inserted.{AreOfLines, IsOfParts};
 
@@ -69,6 +69,19 @@ fn reader_of(alloc: Global, framing: Framing) -> Result<BodyReader, NoMemory>
     BodyReader::make(alloc, framing)
 }
 
+// Whether a stage of a chain pauses between two of its events.
+fn has_pause<P: Transform + Drop>(chain: &Chain<P>) -> bool
+    ensures some { result ≡ true → PausesNowhere P.pause chain.now.stages → ⊥ }
+    ensures none { result ≡ false → PausesNowhere P.pause chain.now.stages }
+{
+    for stage in 0..chain.stages() {
+        if chain.pause(stage) > 0 {
+            return true;
+        }
+    }
+    false
+}
+
 /// What passes on the body of a response. Nothing of it was begun.
 pub fn make_relay<P: Transform<Line = TransformLine> + Drop>(
     alloc: Global,
@@ -80,15 +93,19 @@ pub fn make_relay<P: Transform<Line = TransformLine> + Drop>(
     ensures fresh { IfOk result (IsFreshRelay P.Transform setup.now request.now head.now) }
     ensures parts { IfOk result (λ r. IsOfParts P.Transform
         (body_lines setup.now request.now head.now) r.driven.chain) }
+    ensures pauses { IfOk result (KnowsPauses P.pause) }
 {
     let framing = framing_between(request, head);
     let body = reader_of(alloc, framing)?;
     let parts = body_parts(alloc, setup, framing, head)?;
     let chain = Chain::make(alloc, parts)?;
+    let pauses = has_pause(&chain);
     Ok(Relay {
         driven: DrivenChain::make(alloc, chain),
         body,
         reader: None,
         short: None,
+        pauses,
+        fed: 0,
     })
 }

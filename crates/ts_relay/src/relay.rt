@@ -47,6 +47,10 @@ pub struct Relay<P> {
     pub reader: Option<StageContinuation>,
     /// Whether no more of the body comes though it has not ended, and why.
     pub short: Option<Short>,
+    /// Whether a stage of the chain pauses between two of its events.
+    pub pauses: bool,
+    /// How many pieces of the body were given to the chain. The count stays at the greatest `u64`.
+    pub fed: u64,
 }
 
 /// Where a step leads at which an event was set, or could not be.

@@ -12,6 +12,7 @@ returns-clause-feeds g c =
       driven = c.give_part.new.driven;
       body = c.feed-fed.new.self;
       short = c.short_if-relay.result;
+      fed = c.count_if-relay.result;
     }) c.args.inbox.now c.take.new.self c.in-Some.block.now c.feed-fed.result c.in-Some.ensures.0
     c.in-Some.ensures.2 c.feed-fed.ensures.takes c.feed-fed.ensures.goes_on c.take.ensures
     c.in-Goes.ensures.gets
