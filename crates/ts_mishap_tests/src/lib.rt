@@ -37,3 +37,5 @@ mod stock;
 mod told;
 #[cfg(test)]
 mod waits;
+#[cfg(test)]
+mod writes;
