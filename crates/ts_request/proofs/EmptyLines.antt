@@ -17,6 +17,13 @@ pub blank_more : (room : List ℕ) (len : ℕ) → len < length room → AreBlan
 blank_more room len within blank more =
     list_all_more is_end_byte room len 0 within ∙ ap (λ t. t && is_end_byte (get_or room len 0)) blank ∙ more
 
+-- empty lines that are held stay where more of their room is begun
+pub blank_begun : (room begun : List ℕ) (kept len : ℕ) → len ≤ kept → take kept begun ≡ take kept room
+    → AreBlank (take len room) → AreBlank (take len begun)
+blank_begun room begun kept len before same blank =
+    subst AreBlank (sym (take-take len kept room before) ∙ ap (take len) (sym same) ∙ take-take len kept begun before)
+    blank
+
 -- what is put behind the bytes that are held leaves them
 pub blank_stays : (room into : List ℕ) (kept len : ℕ) → len ≤ kept → kept ≤ length room
     → AreBlank (take len room) → AreBlank (take len (take kept room ++ into))

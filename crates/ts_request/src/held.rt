@@ -1,11 +1,12 @@
 //! What a front holds of the bytes that its client gave: the head of a request until it is known, and what is
 //! shown of it and follows it from then on.
 ghost use Rattle.std.specs.Prelude.{◌≡◌, ◌<◌, ◌≤◌, [], false, length, IfOk};
+ghost use Rattle.std.specs.Vec.{vec_capacity};
 ghost use Rattle.httparse.specs.Grammar.{HasNoRequest};
 ghost use Rattle.ts_link.specs.LinkAnswers.{count_got};
 ghost use Rattle.ts_wire.specs.Limits.{head_limit};
 ghost use Rattle.ts_request.specs.declared.stage.Stage.{Stage};
-ghost use Rattle.ts_request.specs.Held.{Copies, FillsFrom, GivesFront, HandsFront, ReadsBehind};
+ghost use Rattle.ts_request.specs.Held.{BeginsRoom, Copies, FillsFrom, GivesFront, HandsFront, ReadsBehind};
 ghost use Rattle.ts_request.specs.Text.{CannotEnd, Decides, before_last, is_heading, no_text};
 
 use crate::finding::{Found, find_upload};
@@ -16,8 +17,12 @@ use std::marker::Model;
 use ts_link::{Got, Link, NoMemory};
 use ts_wire::MAX_HEAD;
 
-// What a front holds. All of it stands in one room, as long as a head may be: first what is shown, and from
-// `from` to `to`, of an upload, what came behind the head and was not handed over.
+// How many bytes of a head one read takes at most: so much of the room is begun for it.
+const MOST_READ: usize = 4096;
+
+// What a front holds. All of it stands in one room, for as many bytes as a head may have, of which no more is
+// begun than was read into: first what is shown, and from `from` to `to`, of an upload, what came behind the
+// head and was not handed over.
 #[derive(Drop)]
 pub(crate) struct HeldText {
     stage: Stage,
@@ -40,6 +45,7 @@ impl Model for HeldText {
     ghost Value = { Text };
 
     ghost use Rattle.std.specs.Prelude.{◌≡◌, ◌≤◌, length, take, slice_range};
+    ghost use Rattle.std.specs.Vec.{vec_capacity};
     ghost use Rattle.ts_wire.specs.Limits.{head_limit};
     ghost use Rattle.ts_request.specs.Lines.{AreBlank};
 
@@ -51,18 +57,34 @@ impl Model for HeldText {
       behind = slice_range t.room.items t.from t.to;
     } };
 
-    ghost invariant = { λ t. (length t.room.items ≡ head_limit)
-        × (t.kept ≤ head_limit) × (t.from ≤ t.to) × (t.to ≤ head_limit)
-        × (t.blank ≤ t.kept) × AreBlank (take t.blank t.room.items) };
+    ghost invariant = { λ t. (length t.room.items ≤ head_limit)
+        × (t.kept ≤ length t.room.items) × (t.from ≤ t.to) × (t.to ≤ length t.room.items)
+        × (t.blank ≤ t.kept) × AreBlank (take t.blank t.room.items) × (head_limit ≤ vec_capacity t.room) };
 }
 
-// The room for as many bytes as a head may have.
+// Room for as many bytes as a head may have, of which none is begun.
 fn head_room(alloc: Global) -> Result<Vec<u8>, NoMemory>
-    ensures { IfOk result (λ room. length room.items ≡ head_limit) }
+    ensures none { IfOk result (λ room. room.items ≡ []) }
+    ensures holds { IfOk result (λ room. head_limit ≤ vec_capacity room) }
 {
-    let mut room = Vec::new(alloc);
-    room.resize(MAX_HEAD, 0)?;
-    Ok(room)
+    Ok(Vec::with_capacity(alloc, MAX_HEAD)?)
+}
+
+// Begins some of the room behind its first `kept` bytes, for one read.
+fn begin_room(room: &mut Vec<u8>, kept: usize)
+    requires kept { kept < head_limit }
+    requires within { (kept ≤ length room.old.items) × (length room.old.items ≤ head_limit) }
+    requires holds { head_limit ≤ vec_capacity room.old }
+    ensures begins { BeginsRoom kept room.old.items room.new.items }
+    ensures holds { head_limit ≤ vec_capacity room.new }
+{
+    let end = (kept + MOST_READ).min(MAX_HEAD);
+    if end <= room.len() {
+        return;
+    }
+    let Ok(()) = room.resize(end, 0) else {
+        unreachable!()
+    };
 }
 
 // Copies as much of the list as there is room for.
@@ -89,6 +111,7 @@ fn read_behind<C: Link>(client: &mut C, room: &mut Vec<u8>, kept: usize) -> Got
     requires { kept < length room.old.items }
     ensures reads { ReadsBehind C.tells kept room.old.items room.new.items
         (C.look client.old) (C.look client.new) result }
+    ensures holds { vec_capacity room.old ≤ vec_capacity room.new }
     ensures goes { C.goes client.old client.new }
 {
     client.read(&mut room[kept..])
@@ -131,6 +154,7 @@ impl HeldText {
         ensures fills { FillsFrom C.tells self.old self.new (C.look client.old) (C.look client.new) result }
         ensures goes { C.goes client.old client.new }
     {
+        begin_room(&mut self.room, self.kept);
         let got = read_behind(client, &mut self.room, self.kept);
         self.kept += count_of(got);
         self.from = self.kept;

@@ -1,10 +1,10 @@
 -- What came stands behind what was held, whose empty lines are as they were.
-use Rattle.std.proofs.Common.{◌≡◌, ◌≤◌, ◌+◌, ◌++◌, [], length, ap, subst, sym, take, ◌∙◌, arith}
+use Rattle.std.proofs.Common.{◌≡◌, ◌≤◌, ◌+◌, ◌++◌, ℕ, List, [], length, ap, subst, sym, take, ◌∙◌, arith}
 use Rattle.std.specs.List.{slice_range}
 use Rattle.ts_link.specs.LinkAnswers.{count_got}
 use Rattle.ts_request.specs.Lines.{AreBlank}
 use Rattle.ts_request.specs.Text.{Text}
-use Rattle.ts_request.proofs.EmptyLines.{blank_stays}
+use Rattle.ts_request.proofs.EmptyLines.{blank_begun, blank_stays}
 use Rattle.ts_request.proofs.HeldBytes.{front_more, no_slice}
 use Rattle.ts_request.proofs.held.HeldText.fill.Goals as goal
 
@@ -12,9 +12,12 @@ pub blank_len-self-inside-requires-clause-blank : goal.blank_len-self-inside-req
 blank_len-self-inside-requires-clause-blank g c =
     let x = c.self.inside in
     let reads = c.read_behind-got.ensures.reads in
-    let within : x.kept ≤ length x.room.items = omega (arith, reads.long) in
+    let begins = c.begin_room.ensures.begins in
+    let begun : List ℕ = c.begin_room.new.room.items in
+    let within : x.kept ≤ length begun = omega (arith, begins.more) in
     subst (λ r. AreBlank (take x.blank r)) (sym (c.deref.ensures.value ∙ reads.room_is))
-    (blank_stays x.room.items reads.into x.kept x.blank c.self.invariant.4 within c.self.invariant.5)
+    (blank_stays begun reads.into x.kept x.blank c.self.invariant.4 within
+    (blank_begun x.room.items begun x.kept x.blank c.self.invariant.4 begins.front c.self.invariant.5))
 
 pub returns-clause-fills : goal.returns-clause-fills
 returns-clause-fills g c =
@@ -22,11 +25,14 @@ returns-clause-fills g c =
     let got = c.read_behind-got.result in
     let room = c.read_behind-got.new.room.items in
     let reads = c.read_behind-got.ensures.reads in
-    let within : x.kept ≤ length x.room.items = omega (arith, reads.long) in
+    let begins = c.begin_room.ensures.begins in
+    let begun : List ℕ = c.begin_room.new.room.items in
+    let within : x.kept ≤ length begun = omega (arith, begins.more) in
     let front : take (x.kept + c.count_of.result) room ≡ take x.kept x.room.items ++ take
     (count_got got) reads.into =
     ap (λ k. take (x.kept + k) room) c.count_of.ensures ∙ ap (take (x.kept + count_got got)) reads.room_is
-    ∙ front_more x.room.items reads.into x.kept (count_got got) within in
+    ∙ front_more begun reads.into x.kept (count_got got) within
+    ∙ ap (λ l. l ++ take (count_got got) reads.into) begins.front in
     let none : slice_range x.room.items x.from x.to ≡ [] =
     ap (λ (u : Text). u.behind) c.self.view_is ∙ c.requires.behind in
     rw (← c.self.view_is) (record {

@@ -19,7 +19,7 @@ returns-then-self c none =
     let blank : AreBlank held =
     subst (λ n. AreBlank (take n x.room.items)) c.if-self.true c.self.invariant.5 in
     subst (CannotEnd c.args.fresh) (ap (λ (u : Text). u.front) c.self.view_is) (record {
-      short = omega (arith, long, c.if-self-eq-MAX_HEAD.false, c.self.invariant.1);
+      short = omega (arith, long, c.if-self-eq-MAX_HEAD.false, c.self.invariant.0, c.self.invariant.1);
       none = λ before. blank_none held blank;
     })
 
@@ -38,6 +38,6 @@ returns c none =
     let quiet : list_any (λ b. b == line_feed) (drop (length held - c.args.fresh) held) ≡ false =
     ap (list_any (λ b. b == line_feed)) same ∙ sym c.contains.ensures.value ∙ none in
     subst (CannotEnd c.args.fresh) (ap (λ (u : Text). u.front) c.self.view_is) (record {
-      short = omega (arith, long, c.if-self-eq-MAX_HEAD.false, c.self.invariant.1);
+      short = omega (arith, long, c.if-self-eq-MAX_HEAD.false, c.self.invariant.0, c.self.invariant.1);
       none = still_none held c.args.fresh quiet;
     })
