@@ -1,18 +1,18 @@
 -- What a span comes to: each of its calls is one of a link, and at its end its client is that of the session.
 use Rattle.std.proofs.Common.{◌≡◌, inl, inr, ℕ, ◌+◌, ◌-◌, ◌<◌, ◌≤◌, Bool, true, false, ◌||◌, List, [], ◌++◌}
-use Rattle.std.proofs.Common.{length, take, refl, sym, ap, subst, ⊎_elim, ◌∙◌, arith, append_assoc}
+use Rattle.std.proofs.Common.{length, length-append, take, refl, sym, ap, subst, ⊎_elim, ◌∙◌, arith, append_assoc}
 use Rattle.std.proofs.Common.{None}
 use Rattle.std.specs.Prelude.{◌&&◌, nat_lt}
 use Rattle.std.specs.List.{slice_range}
 use Rattle.std.proofs.lemmas.Bool.{and_parts, eqb-true, ltb-true, or_cases}
-use Rattle.std.proofs.lemmas.List.{append-nil, take_all}
+use Rattle.std.proofs.lemmas.List.{append-nil, nil_from_length, take_all}
 use Rattle.ts_lists.proofs.Fronts.{rest_by_length}
 use Rattle.ts_link.specs.Counts.{one_more}
 use Rattle.ts_link.specs.Link.{Calls, GivesMore, Lacks, Look, MayReplace, Reads, TakesMore, Writes, all_of}
 use Rattle.ts_link.specs.LinkAnswers.{EndsWell, count_got, count_put, got_again, got_failed, put_again, writes_after}
 use Rattle.ts_link.specs.declared.link.Got.{Got}
 use Rattle.ts_link.specs.declared.link.Put.{Put}
-use Rattle.ts_link.specs.declared.link.Put.TheVariants as P
+use Rattle.ts_link.specs.declared.link.Put.TheVariants as W
 use Rattle.ts_session.specs.Course.{HoldsHead, IsOwing, IsWithin, fresh_request, has_found}
 use Rattle.ts_session.specs.Course.{is_whole, may_go_on, request_given, request_rest, response_written, told, waiting}
 use Rattle.ts_session.specs.Course.{IsKnown, IsPlaced, IsSound, MayGoOn, RespondsBy}
@@ -24,12 +24,14 @@ use Rattle.ts_session.specs.Lines.{HasEnded, IsCut, may_drop_at}
 use Rattle.ts_session.specs.Finding.{Decides}
 use Rattle.ts_session.specs.FirstRequest.{first_request}
 use Rattle.ts_session.specs.Held.{StaysWhole}
-use Rattle.ts_session.specs.Reading.{MovesOn, MovesTo, Rests, Shows}
+use Rattle.ts_session.specs.Reading.{MovesOn, MovesTo, PollsHeld, Rests, Shows}
 use Rattle.ts_session.specs.Requests.{IsRequest, IsRequestWith}
 use Rattle.ts_session.specs.Session.{GoesBehind, IsNew, IsSent, IsSession, MayContinue}
-use Rattle.ts_session.specs.Session.{PollsSpan}
+use Rattle.ts_session.specs.Session.{EndsSpan, PollsSpan}
 use Rattle.ts_session.specs.Writing.{LeavesAll, LeavesBy, LeavesClient, WritesOn}
 use Rattle.ts_session.specs.declared.course.Course.{Course}
+use Rattle.ts_session.specs.declared.course.Polled.{Polled}
+use Rattle.ts_session.specs.declared.course.Polled.TheVariants as P
 use Rattle.ts_session.specs.declared.lines.Lines.{Lines}
 use Rattle.ts_session.specs.declared.request.Reading.{Reading}
 use Rattle.ts_session.specs.declared.request.Reading.TheVariants as R
@@ -38,6 +40,7 @@ use Rattle.ts_session.specs.declared.response.Response.{Response}
 use Rattle.ts_session.specs.declared.response.Sending.{Sending}
 use Rattle.ts_session.specs.declared.response.Sending.TheVariants as S
 use Rattle.ts_session.proofs.Bodies.{chunks_first, first_all, known_first, request_with}
+use Rattle.ts_session.proofs.FirstRequest.{first_within}
 use Rattle.ts_session.proofs.FoundHeads.{lacks_none}
 use Rattle.ts_session.proofs.HeadWalks.{front_open, inside_going, may_begins}
 use Rattle.ts_session.proofs.HeldLines.{slice_front}
@@ -85,6 +88,10 @@ rule_stays x r s place rule rests found =
 told_none : (tells : Bool) (bytes : List ℕ) → bytes ≡ [] → told tells bytes ≡ []
 told_none true bytes none = none
 told_none false bytes none = refl
+
+told_all : (tells : Bool) (bytes : List ℕ) → (tells ≡ true → bytes ≡ []) → told tells bytes ≡ []
+told_all true bytes none = none refl
+told_all false bytes none = refl
 
 told_same : (tells : Bool) (a b : List ℕ) → (tells ≡ true → a ≡ b) → told tells a ≡ told tells b
 told_same true a b same = same refl
@@ -277,12 +284,12 @@ module _ {C : Type 0} (look : C → Look) (tells may : Bool) (s : Course C) (c :
       → LeavesClient tells (look s.client) (look c) a
       → (tells ≡ true → response_written look written ≡ response_written look s ++ take (count_put a) piece)
       → writes ≡ writes_after a s.writes → Lacks a (span_look look tells s) (span_look look tells written)
-  lacks_span (P.Took n) all leaves same counted = tt
-  lacks_span P.Again all leaves same counted = tt
-  lacks_span P.Failed all leaves same counted = tt
-  lacks_span P.NoMemory (inl (same_p, same_cut, same_l)) leaves same counted =
+  lacks_span (W.Took n) all leaves same counted = tt
+  lacks_span W.Again all leaves same counted = tt
+  lacks_span W.Failed all leaves same counted = tt
+  lacks_span W.NoMemory (inl (same_p, same_cut, same_l)) leaves same counted =
       all_lacks same_p same_cut same_l counted
-  lacks_span P.NoMemory (inr found) leaves same counted = paid_lacks found leaves same counted
+  lacks_span W.NoMemory (inr found) leaves same counted = paid_lacks found leaves same counted
 
   wrote : tells ≡ true
       → response_written look written ≡ response_written look s ++ take (count_put answer) piece
@@ -472,6 +479,24 @@ module _ {C : Type 0} (look : C → Look) (tells : Bool) (s : Course C) (sound :
         within_head = taken_now.within_head;
       })
 
+  -- ---- a client that has ended
+
+  -- where nothing is held and the client has nothing left, nothing is left of the request
+  ended_rest : s.request.held ≡ [] → (look s.client).left ≡ [] → request_rest look s ≡ []
+  ended_rest none ended =
+      let bytes : List ℕ = bytes_now in
+      nil_from_length (request_rest look s) (omega (
+        arith,
+        ap length all_now,
+        ap length given_now,
+        ap length none,
+        ap length ended,
+        length-append (request_given look s) (request_rest look s),
+        length-append placed.given (s.request.held ++ (look s.client).left),
+        length-append s.request.held (look s.client).left,
+        first_within bytes,
+      ))
+
   -- ---- the next request
 
   module _ (dropped : is_dropped s.response.sending ≡ true) where
@@ -565,6 +590,16 @@ module _ {C : Type 0} (look : C → Look) (tells : Bool) (s : Course C) (sound :
               ∙ since_is (look s.client).taken [] (look s.client).taken (sym (append-nil (look s.client).taken));
           name = ap (λ (k : Look). k.name) m;
         })
+
+-- where the client has ended, nothing is left of its span
+pub ends_span : {C : Type 0} (look : C → Look) (tells : Bool) (s : Course C) → IsSound look tells s
+    → (answer : Polled) → PollsHeld tells answer s.request (look s.client)
+    → EndsSpan answer (span_look look tells s)
+ends_span look tells s sound P.Some holds = tt
+ends_span look tells s sound P.End (none, ended) =
+    told_all tells (request_rest look s) (λ tell. ended_rest look tells s sound tell none (ended tell))
+ends_span look tells s sound P.Again holds = tt
+ends_span look tells s sound P.Failed holds = tt
 
 -- ---- the spans that begin
 

@@ -1,6 +1,6 @@
 -- The first request of a client's bytes is a function of them.
 use Rattle.std.proofs.Common.{◌≡◌, ℕ, ◌+◌, ◌<◌, ◌≤◌, Bool, true, List, [], ◌++◌, length, take, drop}
-use Rattle.std.proofs.Common.{inl, inr, refl, sym, ap, subst, ◌∙◌, arith, length-append, take-append-drop}
+use Rattle.std.proofs.Common.{inl, inr, ⊎_elim, refl, sym, ap, subst, ◌∙◌, arith, length-append, take-append-drop}
 use Rattle.std.proofs.Common.{Option, Some, None}
 use Rattle.std.specs.Prelude.{◌&&◌, map, nat_le}
 use Rattle.std.proofs.lemmas.Bool.{and_from, and_parts, eq-eqb, eqb-true, le-leb, leb-true}
@@ -117,6 +117,15 @@ first_next bytes = by_end (request_end bytes) refl
       sym (take-append-drop n bytes),
       whole_found (take n bytes) (least_found (whole_front bytes) 0 (length bytes + 1) n is).1,
     )
+
+-- it is no longer than they are
+pub first_within : (bytes : List ℕ) → length (first_request bytes) ≤ length bytes
+first_within bytes =
+    ⊎_elim
+    (λ (all : first_request bytes ≡ bytes). omega (arith, ap length all))
+    (λ (n : (more : List ℕ) × (bytes ≡ first_request bytes ++ more) × IsRequest (first_request bytes)).
+    omega (arith, ap length n.1, length-append (first_request bytes) n.0))
+    (first_next bytes)
 
 pub finds_first : FindsFirst
 finds_first = record { whole = first_whole; lacks = first_lacks; next = first_next }

@@ -1,9 +1,11 @@
 -- What the spans of one client come to, one after the other (RFC 9112, section 9.3).
-use Rattle.std.specs.Prelude.{◌≡◌, ℕ, ◌<◌, ◌||◌, Bool, true, false, List, [], ◌++◌, drop, slice_range}
+use Rattle.std.specs.Prelude.{◌≡◌, ℕ, ◌<◌, ◌||◌, Bool, true, false, List, [], ◌++◌, drop, slice_range, ⊤}
 use Rattle.httparse.specs.Grammar as grammar
 use Rattle.ts_link.specs.Link.{Calls, GivesMore, Look, all_of}
 use Rattle.ts_session.specs.Course.{fresh_request, fresh_response, span_look}
 use Rattle.ts_session.specs.declared.course.Course.{Course}
+use Rattle.ts_session.specs.declared.course.Polled.{Polled}
+use Rattle.ts_session.specs.declared.course.Polled.TheVariants as P
 use Rattle.ts_session.specs.Kept.{AreLines, IsKept, close_line}
 use Rattle.ts_session.specs.Limits.{most_places}
 use Rattle.ts_session.specs.Lines.{HasEnded, agrees}
@@ -89,6 +91,11 @@ pub record PollsSpan (tells : Bool) (old new : Look) (failed waited : Bool) : Ty
   pub reads : new.reads ≡ old.reads
   pub writes : new.writes ≡ old.writes
   pub told : tells ≡ true → GivesMore old new []
+
+-- where the client has ended, nothing is left of the span
+abbrev pub EndsSpan : Polled → Look → Type 0
+EndsSpan P.End span = span.left ≡ []
+EndsSpan _ span = ⊤
 
 -- what is seen of an origin whose client is shown by a span: it has no upload of its own to move
 abbrev pub spanned_look : Look → Look

@@ -7,7 +7,8 @@ ghost use Rattle.ts_session.specs.Course.{IsSound, SpanGoes, is_dropped, may_go_
 ghost use Rattle.ts_session.specs.Course.{span_still, waiting};
 ghost use Rattle.ts_session.specs.Limits.{most_places};
 ghost use Rattle.ts_session.specs.Reading.{IsUnread, PollsHeld, StaysUnread, poll_again, poll_failed};
-ghost use Rattle.ts_session.specs.Session.{DropsLine, GoesBehind, IsNew, IsSession, MayContinue, PollsSpan};
+ghost use Rattle.ts_session.specs.Session.{DropsLine, EndsSpan, GoesBehind, IsNew, IsSession, MayContinue};
+ghost use Rattle.ts_session.specs.Session.{PollsSpan};
 
 use crate::course::{Course, MOST_PLACES, Polled};
 use crate::reading::{poll_request, read_request};
@@ -63,13 +64,14 @@ impl<C: Sourced + Drop> Span<C> {
     }
 
     /// Looks for the request, of which nothing was given: reads the client once at most, where no byte of it is
-    /// held. `Some` where one is held then. It takes no memory.
+    /// held. `Some` where one is held then, and `End` where nothing is left of it. It takes no memory.
     pub fn poll(&mut self) -> Polled
         requires unread { IsUnread self.old.request }
         ensures holds { PollsHeld C.tells result self.new.request (C.look self.new.client) }
         ensures shows { PollsSpan C.tells (span_look C.look C.tells self.old)
             (span_look C.look C.tells self.new) (poll_failed result) (poll_again result) }
         ensures unread { StaysUnread result self.new.request }
+        ensures ends { EndsSpan result (span_look C.look C.tells self.new) }
         ensures goes { SpanGoes C.goes self.old self.new }
     {
         poll_course(&mut self.course)
@@ -129,6 +131,7 @@ fn poll_course<C: Sourced>(course: &mut Course<C>) -> Polled
     ensures shows { PollsSpan C.tells (span_look C.look C.tells course.old)
         (span_look C.look C.tells course.new) (poll_failed result) (poll_again result) }
     ensures unread { StaysUnread result course.new.request }
+    ensures ends { EndsSpan result (span_look C.look C.tells course.new) }
     ensures goes { SpanGoes C.goes course.old course.new }
     ensures sound { IsSound C.look C.tells course.new }
 {
