@@ -139,7 +139,7 @@ module _ {C : Type 0} (look : C → Look) (tells : Bool) (s : Course C) (c : C) 
     source = ap (λ bytes. first_request (since (given_before look s) bytes)) moved.moves.calls.source;
     name = moved.moves.calls.name;
     plan = refl;
-    carried = moved.moves.calls.carried;
+    carried = refl;
     uploaded = moved.moves.calls.uploaded;
     before = refl;
     faults = moved.moves.calls.faults;
@@ -252,7 +252,7 @@ module _ {C : Type 0} (look : C → Look) (tells may : Bool) (s : Course C) (c :
         waits = leaves.waits i;
         agains = None;
         plan = None;
-        carried = leaves.carried i;
+        carried = [];
         uploaded = leaves.uploaded i;
         before = (
           (look s.begun.value).before.0 ++ given_before look s,
@@ -274,6 +274,7 @@ module _ {C : Type 0} (look : C → Look) (tells may : Bool) (s : Course C) (c :
         writes = counted i;
         agains = None;
         plan = None;
+        carried = [];
         before = (
           (look s.begun.value).before.0 ++ given_before look s,
           (look s.begun.value).before.1 ++ taken_before look s,
@@ -304,7 +305,7 @@ module _ {C : Type 0} (look : C → Look) (tells may : Bool) (s : Course C) (c :
       source = request_same w.leaves.source;
       name = w.leaves.name;
       plan = refl;
-      carried = w.leaves.carried;
+      carried = refl;
       uploaded = w.leaves.uploaded;
       before = refl;
       faults = w.leaves.faults;

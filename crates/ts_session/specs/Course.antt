@@ -237,7 +237,8 @@ module _ {C : Type 0} (look : C → Look) where
   response_written s =
       written_by s.response.sending (taken_before s) (look s.cut.value).taken (look s.client).taken
 
-  -- WHAT IS SEEN of a span: of its request alone. Its calls are its own, so it tells no plan of them.
+  -- WHAT IS SEEN of a span: of its request alone. Its calls are its own, so it tells no plan of them; and no
+  -- upload writes to it.
   abbrev pub span_look : Bool → Course C → Look
   span_look tells s = record (look s.client) {
     given = told tells (request_given s);
@@ -248,6 +249,7 @@ module _ {C : Type 0} (look : C → Look) where
     writes = s.writes;
     agains = None;
     plan = None;
+    carried = [];
     before = (
       (look s.begun.value).before.0 ++ given_before s,
       (look s.begun.value).before.1 ++ taken_before s,
