@@ -667,6 +667,7 @@ module _ {C : Type 0} (look : C → Look) (tells : Bool) (t : Course C) (client 
     place_is = place;
     no_reads = reads;
     no_writes = writes;
+    since = ap (λ (k : C). (look k).before) begun_is;
     gave = λ i. (look (begun_is i)).before.0 ++ given_first i;
     took = λ i. (look (begun_is i)).before.1 ++ (look (begun_is i)).taken;
     no_given = told_none tells (request_given look t)

@@ -222,6 +222,10 @@ module _ {C : Type 0} (look : C → Look) where
   abbrev pub taken_before : Course C → List ℕ
   taken_before s = (look s.begun.value).taken
 
+  -- what the connection had given and taken before this client came
+  abbrev pub before_client : Course C → List ℕ × List ℕ
+  before_client s = (look s.begun.value).before
+
   -- what was given of the request, what is left of it, and what was written of the response
   abbrev pub request_given : Course C → List ℕ
   request_given s = since (given_before s) (given_on s.request.held (look s.client).given)
@@ -250,10 +254,7 @@ module _ {C : Type 0} (look : C → Look) where
     agains = None;
     plan = None;
     carried = [];
-    before = (
-      (look s.begun.value).before.0 ++ given_before s,
-      (look s.begun.value).before.1 ++ taken_before s,
-    );
+    before = ((before_client s).0 ++ given_before s, (before_client s).1 ++ taken_before s);
   }
 
   -- HOW A SPAN STANDS between two calls

@@ -2,7 +2,7 @@
 use Rattle.std.specs.Prelude.{◌≡◌, ℕ, ◌<◌, ◌||◌, Bool, true, false, List, [], ◌++◌, drop, slice_range, ⊤}
 use Rattle.httparse.specs.Grammar as grammar
 use Rattle.ts_link.specs.Link.{Calls, GivesMore, Look, all_of}
-use Rattle.ts_session.specs.Course.{fresh_request, fresh_response, span_look}
+use Rattle.ts_session.specs.Course.{before_client, fresh_request, fresh_response, span_look}
 use Rattle.ts_session.specs.declared.course.Course.{Course}
 use Rattle.ts_session.specs.declared.course.Polled.{Polled}
 use Rattle.ts_session.specs.declared.course.Polled.TheVariants as P
@@ -80,6 +80,7 @@ pub record IsNew {C : Type 0} (look : C → Look) (tells : Bool) (client : C) (s
   pub place_is : s.place ≡ 1
   pub no_reads : s.reads ≡ 0
   pub no_writes : s.writes ≡ 0
+  pub since : before_client look s ≡ (look client).before
   pub gave : (span_look look tells s).before.0 ≡ (look client).before.0 ++ (look client).given
   pub took : (span_look look tells s).before.1 ≡ (look client).before.1 ++ (look client).taken
   pub no_given : (span_look look tells s).given ≡ []

@@ -3,8 +3,8 @@ ghost use Rattle.std.specs.Prelude.{◌≡◌, ◌+◌, ◌<◌, ◌≤◌, leng
 ghost use Rattle.ts_link.specs.Counts.{one_more};
 ghost use Rattle.ts_link.specs.Link.{Reads, Writes};
 ghost use Rattle.ts_link.specs.LinkAnswers.{writes_after};
-ghost use Rattle.ts_session.specs.Course.{IsSound, SpanGoes, is_dropped, may_go_on, span_look, span_on, span_same};
-ghost use Rattle.ts_session.specs.Course.{span_still, waiting};
+ghost use Rattle.ts_session.specs.Course.{IsSound, SpanGoes, before_client, is_dropped, may_go_on, span_look};
+ghost use Rattle.ts_session.specs.Course.{span_on, span_same, span_still, waiting};
 ghost use Rattle.ts_session.specs.Limits.{most_places};
 ghost use Rattle.ts_session.specs.Reading.{IsUnread, PollsHeld, StaysUnread, poll_again, poll_failed};
 ghost use Rattle.ts_session.specs.Session.{DropsLine, EndsSpan, GoesBehind, IsNew, IsSession, MayContinue};
@@ -93,12 +93,14 @@ impl<C: Sourced + Drop> Span<C> {
         self.course.response.is_dropped()
     }
 
-    /// The span of the next request, which begins where this one ended. It takes no memory.
+    /// The span of the next request, which begins where this one ended, in the same connection. It takes no
+    /// memory.
     pub fn next(self) -> Span<C>
         requires { is_dropped self.response.sending ≡ true }
         ensures behind { C.tells ≡ true
             → GoesBehind (span_look C.look C.tells self) (span_look C.look C.tells result) }
         ensures client { result.client ≡ self.client }
+        ensures since { before_client C.look result ≡ before_client C.look self }
         ensures place { result.place ≡ self.place + 1 }
         ensures within { result.place ≤ most_places }
         ensures unread { IsUnread result.request }
@@ -114,6 +116,7 @@ impl<C: Sourced + Drop> Span<C> {
     /// a line that might have been dropped, it lacks the front of that line.
     pub fn into_client(self) -> C
         ensures client { result ≡ self.client }
+        ensures since { (C.look result).before ≡ before_client C.look self }
         ensures session { C.tells ≡ true → IsSession (span_look C.look C.tells self)
             (is_dropped self.response.sending) (waiting self.response.sending) (C.look result) }
     {
@@ -216,6 +219,7 @@ fn next_course<C: Sourced>(course: Course<C>) -> Course<C>
     ensures behind { C.tells ≡ true
         → GoesBehind (span_look C.look C.tells course) (span_look C.look C.tells result) }
     ensures client { result.client ≡ course.client }
+    ensures since { before_client C.look result ≡ before_client C.look course }
     ensures place { result.place ≡ course.place + 1 }
     ensures within { result.place ≤ most_places }
     ensures unread { IsUnread result.request }

@@ -1,5 +1,5 @@
 -- The next request begins where this one ended.
-use Rattle.std.proofs.Common.{refl, ◌+◌}
+use Rattle.std.proofs.Common.{refl, ap, ◌∙◌, ◌+◌}
 use Rattle.ts_session.proofs.Ends.{goes_behind, next_sound, place_within}
 use Rattle.ts_session.proofs.span.next_course.Goals as goal
 
@@ -20,6 +20,10 @@ returns-clause-behind g c tell =
     refl c.of-begun.ensures c.len-surplus.ensures
     c.behind-request.ensures.held_is
     c.new-response.ensures
+
+pub returns-clause-since : goal.returns-clause-since
+returns-clause-since g c =
+    ap (λ (k : g.row.C.Denot). (g.C.Link.look k).before) c.of-begun.ensures ∙ c.requires.sound.begun
 
 pub returns-clause-within : goal.returns-clause-within
 returns-clause-within g c =

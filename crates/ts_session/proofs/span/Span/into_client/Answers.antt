@@ -2,6 +2,9 @@
 use Rattle.ts_session.proofs.Ends.{is_session}
 use Rattle.ts_session.proofs.span.Span.into_client.Goals as goal
 
+pub returns-clause-since : goal.returns-clause-since
+returns-clause-since g c = rw (← c.self.view_is) c.self.invariant.begun
+
 pub returns-clause-session : goal.returns-clause-session
 returns-clause-session g c =
     rw (← c.self.view_is)
