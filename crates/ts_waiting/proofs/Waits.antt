@@ -43,8 +43,6 @@ module _ {C : Type 0} (client : link.Ghosts C) where
     pub polled_of : {L : Type 0} (old new : Waiting C L) → HasPolled client old new → KeepsWait client old new
     polled_of {L} old new polled = record {
       tags = λ tag is. record {
-        number = polled.number ∙ is.number;
-        place = polled.place ∙ is.place;
         left = polled.left ∙ is.left;
         span = same_on tag.span.value old.span new.span is.span polled.span;
         faults = counts_on new.state tag.span.value old.span new.span is.span.faults polled.polls.faults;

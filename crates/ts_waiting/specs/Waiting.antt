@@ -45,6 +45,11 @@ has_waited (W.Polling key) = true
 has_waited W.Lacks = true
 has_waited _ = false
 
+-- memory lacked for polling it
+abbrev pub is_lacking : WaitState → Bool
+is_lacking W.Lacks = true
+is_lacking _ = false
+
 -- ---- between calls
 
 -- the one event that is pending is a plain one of this continuation
@@ -125,8 +130,6 @@ module _ {C L : Type 0} (client : link.Ghosts C) where
 
   -- IT IS THE WORLD that the tag names, however far it is
   pub record IsWaitOf (tag : WaitTag C L) (w : Waiting C L) : Type 0 where
-    pub number : w.number ≡ tag.number
-    pub place : w.place ≡ tag.place
     pub left : w.left ≡ tag.left.value
     pub span : IsSameSpan client tag.span.value w.span
     pub faults : CountsFault client w.state tag.span.value w.span
@@ -140,8 +143,6 @@ module _ {C L : Type 0} (client : link.Ghosts C) where
 
   -- the client was polled once, and all else is kept
   pub record HasPolled (old new : Waiting C L) : Type 0 where
-    pub number : new.number ≡ old.number
-    pub place : new.place ≡ old.place
     pub left : new.left ≡ old.left
     pub span : IsSameSpan client old.span new.span
     pub polls : PollsOnce client new.state old.span new.span
@@ -152,11 +153,8 @@ module _ {C L : Type 0} (client : link.Ghosts C) where
   TakesPoll _ old new = new ≡ old
 
 -- the world of this client and of what is left, which was not started
-pub record IsNewWait {C L : Type 0} (span : Course C) (number place : ℕ) (left : L) (w : Waiting C L)
-    : Type 0 where
+pub record IsNewWait {C L : Type 0} (span : Course C) (left : L) (w : Waiting C L) : Type 0 where
   pub span_is : w.span ≡ span
-  pub number_is : w.number ≡ number
-  pub place_is : w.place ≡ place
   pub left_is : w.left ≡ left
   pub state_is : w.state ≡ W.Unstarted
 

@@ -2,7 +2,7 @@
 ghost use Rattle.std.specs.Prelude.{◌≡◌, [], true};
 ghost use Rattle.ts_journal.specs.State.{State};
 ghost use Rattle.ts_session.specs.Reading.{IsUnread};
-ghost use Rattle.ts_waiting.specs.Waiting.{IsNewWait, IsSoundWait, has_answered};
+ghost use Rattle.ts_waiting.specs.Waiting.{IsNewWait, IsSoundWait, has_answered, is_lacking};
 
 use crate::polling::WaitState;
 use std::snapshot::Snapshot;
@@ -13,8 +13,6 @@ use ts_session::Span;
 #[derive(Drop)]
 pub struct Waiting<C: Sourced, L> {
     pub(crate) span: Span<C>,
-    pub(crate) number: u64,
-    pub(crate) place: u32,
     pub(crate) left: L,
     pub(crate) state: WaitState,
 }
@@ -22,10 +20,6 @@ pub struct Waiting<C: Sourced, L> {
 /// What a slot promises of it. The span and what is left are for contracts alone, and take no memory.
 #[derive(Drop)]
 pub struct WaitTag<C: Sourced, L> {
-    /// The client's number.
-    pub number: u64,
-    /// The place of the transaction before, among those of its client, counted from 1.
-    pub place: u32,
     /// The span of the next request, as the world was made.
     pub span: Snapshot<Span<C>>,
     /// What is left of the transaction before.
@@ -54,33 +48,17 @@ fn is_answered(state: WaitState) -> bool
 }
 
 impl<C: Sourced + Drop, L: Drop> Waiting<C, L> {
-    /// The world of a client of this number, whose next request is that of the span, behind a transaction at
-    /// this place, of which this is left. It was not started, and takes no memory.
-    pub fn make(span: Span<C>, number: u64, place: u32, left: L) -> Waiting<C, L>
+    /// The world of a client whose next request is that of the span, behind a transaction of which this is
+    /// left. It was not started, and takes no memory.
+    pub fn make(span: Span<C>, left: L) -> Waiting<C, L>
         requires { IsUnread span.request }
-        ensures { IsNewWait span number place left result }
+        ensures { IsNewWait span left result }
     {
         Waiting {
             span,
-            number,
-            place,
             left,
             state: WaitState::Unstarted,
         }
-    }
-
-    /// The client's number.
-    pub fn number(&self) -> u64
-        ensures { result ≡ self.now.number }
-    {
-        self.number
-    }
-
-    /// The place of the transaction before.
-    pub fn place(&self) -> u32
-        ensures { result ≡ self.now.place }
-    {
-        self.place
     }
 
     /// How far it is.
@@ -96,6 +74,13 @@ impl<C: Sourced + Drop, L: Drop> Waiting<C, L> {
         ensures rests { result ≡ true → (s : State) → IsSoundWait C.Link self.now s → s.pending ≡ [] }
     {
         is_answered(self.state)
+    }
+
+    /// Whether memory lacked for polling the client.
+    pub fn lacks_memory(&self) -> bool
+        ensures { result ≡ is_lacking self.now.state }
+    {
+        matches!(self.state, WaitState::Lacks)
     }
 
     /// What is left of the transaction before.

@@ -6,8 +6,6 @@ use Rattle.ts_waiting.proofs.world.WaitingWorld.handle.Goals as goal
 pub returns-clause-promises : goal.returns-clause-promises
 returns-clause-promises g c =
     polled_of g.C.Link g.met.C.Link.still_on c.args.self.now _ (record {
-      number = refl;
-      place = refl;
       left = refl;
       span = c.poll_once-self.ensures.same;
       polls = c.poll_once-self.ensures.polls;
