@@ -2,3 +2,4 @@
 pub mod Kept
 pub mod Layers
 pub mod Links
+pub mod Sessions
