@@ -34,6 +34,11 @@ has_answered W.Ended = true
 has_answered W.Failed = true
 has_answered _ = false
 
+-- it answered that some of the request is there
+abbrev pub is_ready : WaitState → Bool
+is_ready W.Ready = true
+is_ready _ = false
+
 -- it answered that the client failed
 abbrev pub has_failed : WaitState → Bool
 has_failed W.Failed = true

@@ -2,7 +2,7 @@
 ghost use Rattle.std.specs.Prelude.{◌≡◌, [], true};
 ghost use Rattle.ts_journal.specs.State.{State};
 ghost use Rattle.ts_session.specs.Reading.{IsUnread};
-ghost use Rattle.ts_waiting.specs.Waiting.{IsNewWait, IsSoundWait, has_answered, is_lacking};
+ghost use Rattle.ts_waiting.specs.Waiting.{IsNewWait, IsSoundWait, has_answered, is_lacking, is_ready};
 
 use crate::polling::WaitState;
 use std::snapshot::Snapshot;
@@ -74,6 +74,13 @@ impl<C: Sourced + Drop, L: Drop> Waiting<C, L> {
         ensures rests { result ≡ true → (s : State) → IsSoundWait C.Link self.now s → s.pending ≡ [] }
     {
         is_answered(self.state)
+    }
+
+    /// Whether some of the next request is there.
+    pub fn is_ready(&self) -> bool
+        ensures { result ≡ is_ready self.now.state }
+    {
+        matches!(self.state, WaitState::Ready)
     }
 
     /// Whether memory lacked for polling the client.
