@@ -1,6 +1,6 @@
 -- A transaction in a session, which has the span of one request for its client, and what is left of it: the
 -- span of the next request, or the client (RFC 9112, section 9.3).
-use Rattle.std.specs.Prelude.{◌≡◌, ⊤, ℕ, ◌+◌, ◌≤◌, true, Option, Some, None}
+use Rattle.std.specs.Prelude.{◌≡◌, ⊤, ◌+◌, ◌≤◌, true, Option, Some}
 use Rattle.std.specs.Option.{option_map}
 use Rattle.ts_hooks.specs.declared.txn_end.TxnEnd.TheVariants as E
 use Rattle.ts_link.specs.Link.{Look}

@@ -220,8 +220,7 @@ fn next_course<C: Sourced>(course: Course<C>) -> Course<C>
         → GoesBehind (span_look C.look C.tells course) (span_look C.look C.tells result) }
     ensures client { result.client ≡ course.client }
     ensures since { before_client C.look result ≡ before_client C.look course }
-    ensures place { result.place ≡ course.place + 1 }
-    ensures within { result.place ≤ most_places }
+    ensures place { (result.place ≡ course.place + 1) × (result.place ≤ most_places) }
     ensures unread { IsUnread result.request }
     ensures sound { IsSound C.look C.tells result }
 {

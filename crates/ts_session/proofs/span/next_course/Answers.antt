@@ -25,9 +25,11 @@ pub returns-clause-since : goal.returns-clause-since
 returns-clause-since g c =
     ap (λ (k : g.row.C.Denot). (g.C.Link.look k).before) c.of-begun.ensures ∙ c.requires.sound.begun
 
-pub returns-clause-within : goal.returns-clause-within
-returns-clause-within g c =
-    place_within g.C.Link.look g.C.Link.tells c.args.course c.requires.sound c.requires.dropped
+pub returns-clause-place : goal.returns-clause-place
+returns-clause-place g c = (
+  refl,
+  place_within g.C.Link.look g.C.Link.tells c.args.course c.requires.sound c.requires.dropped,
+)
 
 pub returns-clause-unread : goal.returns-clause-unread
 returns-clause-unread g c = c.behind-request.ensures.unread
