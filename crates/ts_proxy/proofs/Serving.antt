@@ -10,7 +10,7 @@ use Rattle.ts_link.specs.Seen.{ShelfSeen, SinkSeen}
 use Rattle.ts_link.specs.declared.link.Link as link
 use Rattle.ts_serve.specs.Balance.{had_number, lacked_origin}
 use Rattle.ts_serve.specs.Served.{AreRetired}
-use Rattle.ts_serve.specs.Exchanges.{IsTxnDone}
+use Rattle.ts_history.specs.Done.{IsTxnDone}
 use Rattle.ts_serve.specs.declared.acceptor.TheConstants.{PLACES}
 use Rattle.ts_stock.specs.StockTransform.{stock_transform}
 use Rattle.ts_txn.specs.Net.{IsFreshNet, NetSeen}

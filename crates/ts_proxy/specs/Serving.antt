@@ -6,7 +6,7 @@ use Rattle.ts_link.specs.Counts.{Rose}
 use Rattle.ts_link.specs.Seen.{ShelfSeen}
 use Rattle.ts_link.specs.declared.link.Link as link
 use Rattle.ts_serve.specs.Served.{AreRetired, HandsAllOver, HasNotFailed, IsNotClosed}
-use Rattle.ts_serve.specs.Exchanges.{IsTxnDone}
+use Rattle.ts_history.specs.Done.{IsTxnDone}
 use Rattle.ts_serve.specs.declared.acceptor.TheConstants.{PLACES}
 use Rattle.ts_stock.specs.StockTransform.{stock_transform}
 use Rattle.ts_txn.specs.Net.{NetSeen}

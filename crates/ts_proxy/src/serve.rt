@@ -8,7 +8,7 @@ ghost use Rattle.ts_proxy.specs.Serving.{IsLetBegin, IsNetLeft, IsServedNet};
 ghost use Rattle.ts_proxy.specs.Words.{Serve};
 ghost use Rattle.ts_replay.specs.Recorded.{HasPlainLines};
 ghost use Rattle.ts_serve.specs.Served.{AreRetired};
-ghost use Rattle.ts_serve.specs.Exchanges.{IsTxnDone};
+ghost use Rattle.ts_history.specs.Done.{IsTxnDone};
 ghost use Rattle.ts_serve.specs.declared.acceptor.TheConstants.{PLACES};
 ghost use Rattle.ts_stock.specs.StockTransform.{stock_transform};
 ghost use Rattle.ts_thread.specs.declared.TheConstants.{MOST_THREADS};

@@ -6,6 +6,7 @@ use Rattle.ts_config.specs.declared.setup.TransformLine.{TransformLine}
 use Rattle.ts_exchange.specs.Ends.{Ends}
 use Rattle.ts_exchange.specs.declared.exchange.Promise.{Promise}
 use Rattle.ts_group.specs.declared.action.Named.{Named}
+use Rattle.ts_history.specs.Done.{AreEndsAt}
 use Rattle.ts_journal.specs.State.{State}
 use Rattle.ts_layers.specs.Layers.{IsLayeredTag, LayeredExchanges, MayBeLayered, TakesUploads}
 use Rattle.ts_layers.specs.Links.{ClientEnd, OriginEnd, client_link, origin_link, origin_uploads}
@@ -20,7 +21,7 @@ use Rattle.ts_txn.specs.World.{IsSoundTxn, IsTxnOf}
 use Rattle.ts_txn.specs.declared.txn.Txn.{Txn}
 use Rattle.ts_txn.specs.declared.txn.TxnTag.{TxnTag}
 use Rattle.ts_serve.specs.Arrivals.{IsArrival}
-use Rattle.ts_serve.specs.Exchanges.{AreEndsAt, KeepsTerms}
+use Rattle.ts_serve.specs.Exchanges.{KeepsTerms}
 use Rattle.ts_serve.specs.Tenants.{MayLive}
 use Rattle.ts_serve.specs.declared.exchanges.TxnTerms.{TxnTerms}
 

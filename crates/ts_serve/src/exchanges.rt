@@ -4,6 +4,7 @@
 ghost use Rattle.std.specs.Prelude.{◌≡◌, ◌<◌, ◌≤◌, is_some, true, IfOk};
 ghost use Rattle.std.specs.Arc.{arc_value};
 ghost use Rattle.ts_exchange.specs.Left.{has_ended, number_of};
+ghost use Rattle.ts_history.specs.Done.{IsTxnDone};
 ghost use Rattle.ts_layers.specs.Layers.{holds_origin};
 ghost use Rattle.ts_layers.specs.Links.{client_link, origin_link, origin_uploads};
 ghost use Rattle.ts_passing.specs.Lines.{ActsAsLines};
@@ -14,7 +15,7 @@ ghost use Rattle.ts_txn.specs.World.{IsSoundTxn, IsTxnOf};
 ghost use Rattle.ts_serve.specs.declared.acceptor.TheConstants.{PLACES};
 ghost use Rattle.ts_serve.specs.declared.exchanges.TxnTerms.{TxnTerms};
 ghost use Rattle.ts_serve.specs.Arrivals.{IsArrival};
-ghost use Rattle.ts_serve.specs.Exchanges.{AreTerms, IsTxnDone, KeepsTerms};
+ghost use Rattle.ts_serve.specs.Exchanges.{AreTerms, KeepsTerms};
 ghost use Rattle.ts_serve.specs.Served.{AreRetired, IsServed};
 ghost use Rattle.ts_serve.specs.Tenants.{MayLive};
 

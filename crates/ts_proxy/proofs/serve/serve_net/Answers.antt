@@ -2,7 +2,7 @@
 use Rattle.std.proofs.Common.{subst}
 use Rattle.ts_config.specs.declared.setup.Setup.{Setup}
 use Rattle.ts_serve.specs.Served.{AreRetired}
-use Rattle.ts_serve.specs.Exchanges.{IsTxnDone}
+use Rattle.ts_history.specs.Done.{IsTxnDone}
 use Rattle.ts_serve.specs.declared.acceptor.TheConstants.{PLACES}
 use Rattle.ts_stock.specs.StockTransform.{stock_transform}
 use Rattle.ts_txn.specs.declared.retired.Retired.{Retired}
