@@ -18,7 +18,7 @@ use Rattle.ts_journal.specs.declared.slotted.Slotted.{Ghosts}
 use Rattle.ts_slot.specs.Words.{view}
 use Rattle.ts_thread.specs.declared.desk.Desk.{Desk}
 use Rattle.ts_thread.specs.Desks.{KeepsDesk}
-use Rattle.ts_serve.specs.Acceptor.{GoesOn, HasShutCause, IsAcceptorOf, IsAccount, IsNotAsked, KeepsAcceptor}
+use Rattle.ts_serve.specs.Acceptor.{GoesOn, HasShutCause, IsAcceptorOf, IsAccount, IsNotAccepting, KeepsAcceptor}
 use Rattle.ts_serve.specs.Acceptor.{KeepsDeskSome, KeepsSome}
 use Rattle.ts_serve.specs.declared.acceptor.TheConstants.{PLACES}
 use Rattle.ts_serve.specs.Acceptor.{saw_end, saw_fault}
@@ -60,13 +60,12 @@ module _ {C O : Type 0} where
         });
       }
 
-  -- a net that was not asked
+  -- a net that was not asked for a client
   pub account_still : (first : NetCounts) (old new : Acceptor) (before after : NetSeen C O)
-      → new.listening ≡ old.listening → new.came ≡ old.came → new.most ≡ old.most → IsNotAsked before after
+      → new.listening ≡ old.listening → new.came ≡ old.came → new.most ≡ old.most → IsNotAccepting before after
       → IsAccount first old before → IsAccount first new after
   account_still first old new before after same came most still was =
-      account_on first old new before after same (let few = was.few in omega arith)
-      (ap (λ (c : NetCounts). c.ends) still.counts) (ap (λ (c : NetCounts). c.faults) still.counts) was
+      account_on first old new before after same (let few = was.few in omega arith) still.ends still.faults was
 
   module _ {clients : link.Ghosts C} {origins : link.Ghosts O} {both : upstream.Ghosts O C} {number : ℕ} where
     -- a client came
@@ -139,7 +138,7 @@ module _ {C O A : Type 0} (tells : Bool) (Done : A → Retired C O → Type 0) (
   acceptor_row old new net listening came most alike = record {
     most = most;
     account = λ first. account_still first old new net net listening came most
-        (record { given = refl; counts = refl });
+        (record { given = refl; ends = refl; faults = refl });
     balance = λ telling terms misdials places. balance_row (Done terms) misdials old.row.items new.row.items net
         alike;
   }

@@ -27,13 +27,14 @@ use Rattle.ts_txn.specs.Asking.{IsRightFor, MayAskGroup}
 use Rattle.ts_txn.specs.Making.{IsTxnSetup}
 use Rattle.ts_txn.specs.World.{IsTxnOf, LetsContinue}
 use Rattle.ts_txn.specs.declared.txn.Txn.{Txn}
-use Rattle.ts_serve.specs.Places.{PlaceFits, PlaceMayAsk, PlaceRight, PlaceAnswers}
+use Rattle.ts_serve.specs.Places.{FitsAtPlace, PlaceFits, PlaceMayAsk, PlaceRight, PlaceAnswers}
 use Rattle.ts_serve.specs.Servers.{CanAskInServer, StandsBeside, server_tags}
 use Rattle.ts_exchange.specs.Plugins.{ArePluginsOf, IsPluginOfLine}
 use Rattle.ts_serve.specs.Exchanges.{KeepsTerms}
 use Rattle.ts_serve.specs.declared.acceptor.TheConstants.{PLACES}
 use Rattle.ts_exchange.specs.declared.plugins.Tagged.{Tagged}
 use Rattle.ts_serve.specs.declared.place.Place.{Place}
+use Rattle.ts_serve.specs.declared.placed.AtPlace.{AtPlace}
 use Rattle.ts_serve.specs.declared.place.Place.TheVariants.{Empty, Tenant}
 use Rattle.ts_serve.specs.declared.exchanges.TxnTerms.{TxnTerms}
 
@@ -101,11 +102,11 @@ module _ (C O Q : Type 0) (clients : link.Ghosts C) (origins : link.Ghosts O) (s
     (at_places : terms.plugins_at ≡ PLACES) (are : ArePluginsOf setup.plugins.items others) where
   -- a transaction with layers, and the terms that it fits
   abbrev Layered : Type 0
-  Layered = Txn (ClientEnd C) (OriginEnd O Q) Q
+  Layered = AtPlace (Txn (ClientEnd C) (OriginEnd O Q) Q)
 
   abbrev FitsPlace : TxnTerms → Place Layered → Type 0
-  FitsPlace = PlaceFits (λ tag t. IsTxnOf (client_link clients) (origin_link origins) tag t)
-      (KeepsTerms clients.look)
+  FitsPlace = PlaceFits (FitsAtPlace (IsTxnOf (client_link clients) (origin_link origins)))
+      (λ terms tag. KeepsTerms clients.look terms tag.value)
 
   -- whom a world of the server may ask, which replies are right for it, and which it gives
   abbrev ServerWorld : Type 0
@@ -115,10 +116,10 @@ module _ (C O Q : Type 0) (clients : link.Ghosts C) (origins : link.Ghosts O) (s
   FitsTag = EitherFits FitsPlace IsPluginOf
 
   abbrev MayAsk : ServerWorld → ℕ → Type 0
-  MayAsk = EitherMayAsk (PlaceMayAsk MayAskGroup) (λ p group. ⊥)
+  MayAsk = EitherMayAsk (PlaceMayAsk (λ t. MayAskGroup t.value)) (λ p group. ⊥)
 
   abbrev IsRight : ServerWorld → ℕ → HookQuestion → HookReply → Type 0
-  IsRight = EitherRight (PlaceRight IsRightFor) (λ p group question reply. ⊤)
+  IsRight = EitherRight (PlaceRight (λ t. IsRightFor t.value)) (λ p group question reply. ⊤)
 
   abbrev Answers : ServerWorld → HookQuestion → HookReply → Type 0
   Answers = EitherAnswers (PlaceAnswers (λ t question reply. LetsContinue question reply))
@@ -142,19 +143,19 @@ module _ (C O Q : Type 0) (clients : link.Ghosts C) (origins : link.Ghosts O) (s
   -- a transaction in a place has the setup, and the groups behind the places for its plugins
   own_setup : (j : ℕ) (own : TxnTerms) (t : Layered) → slice_get tags j ≡ Some (kind.One own)
       → FitsPlace own (Tenant t)
-      → (arc_value t.core.setup ≡ setup) × (t.core.plugins_at ≡ PLACES)
+      → (arc_value t.value.core.setup ≡ setup) × (t.value.core.plugins_at ≡ PLACES)
   own_setup j own t there fits =
       let same = (place_tag PLACES j terms own others there).1 in
       let tag = fits.1.tag_is in (
-        fits.2.setup ∙ tag.tag_is.setup_is ∙ tag.over.setup ∙ fits.1.ends_are.setup_is
+        fits.2.value.setup ∙ tag.tag_is.setup_is ∙ tag.over.setup ∙ fits.1.ends_are.setup_is
             ∙ ap (λ (s : TxnTerms). s.setup.value) same ∙ setup_is,
-        fits.2.plugins_at ∙ tag.tag_is.plugins_are ∙ tag.over.plugins_at ∙ fits.1.ends_are.plugins_are
+        fits.2.value.plugins_at ∙ tag.tag_is.plugins_are ∙ tag.over.plugins_at ∙ fits.1.ends_are.plugins_are
             ∙ ap (λ (s : TxnTerms). s.plugins_at) same ∙ at_places,
       )
 
   -- whom it may ask stands behind the places, and is only asked
   asks_behind : (j k : ℕ) (own : TxnTerms) (t : Layered) → slice_get tags j ≡ Some (kind.One own)
-      → FitsPlace own (Tenant t) → MayAskGroup t k
+      → FitsPlace own (Tenant t) → MayAskGroup t.value k
       → (j ≢ k) × (u : EitherTag TxnTerms PluginTag) × (slice_get tags k ≡ Some u) × (asked_only u ≡ true)
   asks_behind j k own t there fits may =
       let below = (place_tag PLACES j terms own others there).0 in
@@ -179,7 +180,7 @@ module _ (C O Q : Type 0) (clients : link.Ghosts C) (origins : link.Ghosts O) (s
   right_of : (j k : ℕ) (own : TxnTerms) (u : EitherTag TxnTerms PluginTag) (t : Layered) (v : ServerWorld)
       (q : HookQuestion) (r : HookReply) → slice_get tags j ≡ Some (kind.One own)
       → FitsPlace own (Tenant t)
-      → slice_get tags k ≡ Some u → FitsTag u v → Answers v q r → IsRightFor t k q r
+      → slice_get tags k ≡ Some u → FitsTag u v → Answers v q r → IsRightFor t.value k q r
   right_of j k own u t v q r there fits at fit answers place line is group =
       let has = own_setup j own t there fits in
       let stands = ap (λ (s : Setup). slice_get s.plugins.items place) (sym has.0) ∙ is in
@@ -209,9 +210,10 @@ module _ (C O Q : Type 0) (clients : link.Ghosts C) (origins : link.Ghosts O) (s
   replies j k (kind.Other s) u (Other p) v q r there fits at fit answers = tt
 
   -- the groups of the server can ask each other
-  pub server_asks : CanAskInServer (λ tag t. IsTxnOf (client_link clients) (origin_link origins) tag t)
-      (KeepsTerms clients.look) (MayAskGroup {C = ClientEnd C} {O = OriginEnd O Q} {Q = Q}) IsRightFor
-      (λ t question reply. LetsContinue question reply) IsPluginOf (λ tag. true) (λ p group. ⊥) (λ p group question reply. ⊤)
+  pub server_asks : CanAskInServer (FitsAtPlace (IsTxnOf (client_link clients) (origin_link origins)))
+      (λ terms tag. KeepsTerms clients.look terms tag.value) (λ (t : Layered). MayAskGroup t.value)
+      (λ (t : Layered). IsRightFor t.value) (λ (t : Layered) question reply. LetsContinue question reply) IsPluginOf
+      (λ tag. true) (λ p group. ⊥) (λ p group question reply. ⊤)
       (λ p question reply. IsReplyOf p.line question reply) tags
   server_asks = record { others = asks_others; replies = replies }
 

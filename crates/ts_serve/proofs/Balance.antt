@@ -3,17 +3,22 @@
 use Rattle.std.proofs.Common.{◌≡◌, ℕ, ◌+◌, ◌<◌, ◌≤◌, ◌⊎◌, inl, inr, cond, List, [], ◌∷◌, ◌++◌, All, Bool, true, false, not, length, get_or, set, replicate, is_some, refl, sym, ap, ◌∙◌, subst, arith}
 use Rattle.std.specs.List.{sum_by}
 use Rattle.std.proofs.lemmas.Bool.Decides.{nat_tests}
+use Rattle.std.proofs.lemmas.List.{length-set}
 use Rattle.std.proofs.lemmas.List.Elements.{All-nil, All-push}
 use Rattle.std.proofs.lemmas.List.Folds.{sum_by-replicate}
 use Rattle.std.proofs.lemmas.List.Sums.{sum_by-append, sum_by-cons, sum_by-set}
 use Rattle.ts_link.specs.Counts.{Counted, greatest}
 use Rattle.ts_slot.specs.Lists.{same}
 use Rattle.ts_slot.specs.Views.{within}
-use Rattle.ts_txn.specs.Net.{IsFreshNet, IsHanded, IsHandedNothing, NetSeen}
+use Rattle.ts_txn.specs.Net.{GivesNobody, IsFreshNet, IsHanded, IsHandedNothing, IsNoted, NetSeen}
 use Rattle.ts_txn.specs.declared.net.NetCounts.{NetCounts}
+use Rattle.ts_txn.specs.declared.retired.Noted.{Noted}
 use Rattle.ts_txn.specs.declared.retired.Retired.{Retired}
 use Rattle.ts_serve.specs.declared.connection.Connection.{Connection}
 use Rattle.ts_serve.specs.declared.connection.Connection.TheVariants.{Free, Accepted}
+use Rattle.ts_serve.specs.Stepping.{KeepsGiven}
+use Rattle.ts_serve.specs.Whose.{first_of, next_of, noted_of}
+use Rattle.ts_serve.specs.declared.whose.Whose.{Whose}
 use Rattle.ts_serve.specs.Balance.{IsBalanced, HasAll, HasNoMore, IsSameRow, had_number, has_number, is_given, is_taken, lacked_origin, lacks_origin}
 
 -- one client more was given, under the next number
@@ -92,28 +97,29 @@ module _ {C O : Type 0} (Done : Retired C O → Type 0) (misdials : ℕ) where
   }
 
   -- a client came, and is in the row for a place that was free
-  pub balance_in : (row : List Connection) (k number : ℕ) (has_origin : Bool) (old new : NetSeen C O)
+  pub balance_in : (row : List Connection) (k number made : ℕ) (has_origin : Bool) (old new : NetSeen C O)
       → k < length row → get_or row k Free ≡ Free → number ≡ old.given + 1 → new.given ≡ old.given + 1
       → IsHandedNothing old new → Counted (not has_origin) old.counts.misdials new.counts.misdials
-      → IsBalanced Done misdials row old → IsBalanced Done misdials (set row k (Accepted number has_origin false)) new
-  balance_in row k number has_origin old new below free number_is given nothing counted balance = record {
+      → IsBalanced Done misdials row old
+      → IsBalanced Done misdials (set row k (Accepted (first_of number has_origin) false made)) new
+  balance_in row k number made has_origin old new below free number_is given nothing counted balance = record {
     each = subst (All Done) (sym nothing.retired) balance.each;
     once = λ x.
         let was = balance.once x in
         let handed : sum_by (had_number x) new.retired ≡ sum_by (had_number x) old.retired =
         ap (sum_by (had_number x)) nothing.retired in
-        let connected : sum_by (has_number x) (set row k (Accepted number has_origin false)) + 0
+        let connected : sum_by (has_number x) (set row k (Accepted (first_of number has_origin) false made)) + 0
         ≡ sum_by (has_number x) row + same number x =
-        row_set (has_number x) row k Free (Accepted number has_origin false) below free in
+        row_set (has_number x) row k Free (Accepted (first_of number has_origin) false made) below free in
         let is : same number x ≡ same (old.given + 1) x = ap (λ n. same n x) number_is in
         let are : is_given new x ≡ within 1 (old.given + 1 + 1) x = ap (λ n. within 1 (n + 1) x) given in
         let next = given_next old.given x in omega arith;
     dialed =
         let handed : sum_by lacked_origin new.retired ≡ sum_by lacked_origin old.retired =
         ap (sum_by lacked_origin) nothing.retired in
-        let connected : sum_by lacks_origin (set row k (Accepted number has_origin false)) + 0
+        let connected : sum_by lacks_origin (set row k (Accepted (first_of number has_origin) false made)) + 0
         ≡ sum_by lacks_origin row + cond has_origin 0 1 =
-        row_set lacks_origin row k Free (Accepted number has_origin false) below free in
+        row_set lacks_origin row k Free (Accepted (first_of number has_origin) false made) below free in
         let on = counted_on (not has_origin) old.counts.misdials new.counts.misdials counted in
         elim balance.dialed [
           | inl few ↦ elim (counted_one has_origin old.counts.misdials new.counts.misdials counted) [
@@ -125,13 +131,12 @@ module _ {C O : Type 0} (Done : Retired C O → Type 0) (misdials : ℕ) where
   }
 
   -- what is left of the client of a place was handed over, and the place is free
-  pub balance_out : (row : List Connection) (k number : ℕ) (has_origin started : Bool) (retired : Retired C O)
-      (old new : NetSeen C O) → k < length row → get_or row k Free ≡ Accepted number has_origin started
-      → IsHanded true retired old new → retired.parts.number ≡ number
-      → is_some retired.parts.origin ≡ has_origin → Done retired
+  pub balance_out : (row : List Connection) (k : ℕ) (whose : Whose) (started : Bool) (made : ℕ)
+      (retired : Retired C O) (old new : NetSeen C O) → k < length row
+      → get_or row k Free ≡ Accepted whose started made → IsHanded true retired old new
+      → retired.parts.number ≡ whose.number → is_some retired.parts.origin ≡ whose.has_origin → Done retired
       → IsBalanced Done misdials row old → IsBalanced Done misdials (set row k Free) new
-  balance_out row k number has_origin started retired old new below found handed number_is origin_is done
-      balance =
+  balance_out row k whose started made retired old new below found handed number_is origin_is done balance =
       let told : new.retired ≡ old.retired ++ retired ∷ [] = handed.told refl in record {
         each = subst (All Done) (sym told) (All-push Done old.retired retired balance.each done);
         once = λ x.
@@ -139,24 +144,135 @@ module _ {C O : Type 0} (Done : Retired C O → Type 0) (misdials : ℕ) where
             let more : sum_by (had_number x) new.retired
             ≡ sum_by (had_number x) old.retired + same retired.parts.number x =
             ap (sum_by (had_number x)) told ∙ sum_push (had_number x) old.retired retired in
-            let is : same retired.parts.number x ≡ same number x = ap (λ n. same n x) number_is in
-            let less : sum_by (has_number x) (set row k Free) + same number x
+            let is : same retired.parts.number x ≡ same whose.number x = ap (λ n. same n x) number_is in
+            let less : sum_by (has_number x) (set row k Free) + same whose.number x
             ≡ sum_by (has_number x) row + 0 =
-            row_set (has_number x) row k (Accepted number has_origin started) Free below found in
+            row_set (has_number x) row k (Accepted whose started made) Free below found in
             let are : is_given new x ≡ is_given old x = ap (λ n. within 1 (n + 1) x) handed.given in
             omega arith;
         dialed =
             let more : sum_by lacked_origin new.retired
             ≡ sum_by lacked_origin old.retired + cond (is_some retired.parts.origin) 0 1 =
             ap (sum_by lacked_origin) told ∙ sum_push lacked_origin old.retired retired in
-            let is : cond {A = ℕ} (is_some retired.parts.origin) 0 1 ≡ cond {A = ℕ} has_origin 0 1 =
+            let is : cond {A = ℕ} (is_some retired.parts.origin) 0 1 ≡ cond {A = ℕ} whose.has_origin 0 1 =
             ap {B = ℕ} (λ (b : Bool). cond {A = ℕ} b 0 1) origin_is in
-            let less : sum_by lacks_origin (set row k Free) + cond has_origin 0 1
+            let less : sum_by lacks_origin (set row k Free) + cond whose.has_origin 0 1
             ≡ sum_by lacks_origin row + 0 =
-            row_set lacks_origin row k (Accepted number has_origin started) Free below found in
+            row_set lacks_origin row k (Accepted whose started made) Free below found in
             let counts : new.counts.misdials ≡ old.counts.misdials =
             ap (λ (c : NetCounts). c.misdials) handed.counts in
             elim balance.dialed [ inl few ↦ inl (omega arith) | inr end ↦ inr (omega arith) ];
+      }
+
+-- the row with another handler of the same client in a place has the same clients
+pub same_row : (row : List Connection) (k : ℕ) (whose next : Whose) (started : Bool) (made anew : ℕ)
+    → k < length row → get_or row k Free ≡ Accepted whose started made → next.number ≡ whose.number
+    → next.has_origin ≡ whose.has_origin → IsSameRow row (set row k (Accepted next false anew))
+same_row row k whose next started made anew below found number_is origin_is = record {
+  places = length-set row k (Accepted next false anew);
+  numbers = λ x.
+      let is : same next.number x ≡ same whose.number x = ap (λ n. same n x) number_is in
+      let more : sum_by (has_number x) (set row k (Accepted next false anew)) + same whose.number x
+      ≡ sum_by (has_number x) row + same next.number x =
+      row_set (has_number x) row k (Accepted whose started made) (Accepted next false anew) below found in
+      omega arith;
+  taken =
+      let more : sum_by is_taken (set row k (Accepted next false anew)) + 1 ≡ sum_by is_taken row + 1 =
+      row_set is_taken row k (Accepted whose started made) (Accepted next false anew) below found in
+      omega arith;
+  origins =
+      let is : cond {A = ℕ} next.has_origin 0 1 ≡ cond {A = ℕ} whose.has_origin 0 1 =
+      ap {B = ℕ} (λ (b : Bool). cond {A = ℕ} b 0 1) origin_is in
+      let more : sum_by lacks_origin (set row k (Accepted next false anew)) + cond whose.has_origin 0 1
+      ≡ sum_by lacks_origin row + cond next.has_origin 0 1 =
+      row_set lacks_origin row k (Accepted whose started made) (Accepted next false anew) below found in
+      omega arith;
+}
+
+-- A transaction was noted and an origin dialed for the next one of its client.
+module _ {C O : Type 0} (row : List Connection) (k made anew : ℕ) (note : Noted O) (has : Bool)
+    (old mid new : NetSeen C O) (below : k < length row)
+    (found : get_or row k Free ≡ Accepted (noted_of note) true made) where
+  -- the row with the next transaction of the client
+  abbrev pub next_row : List Connection
+  next_row = set row k (Accepted (next_of note has) false anew)
+
+  taken_same : sum_by is_taken next_row ≡ sum_by is_taken row
+  taken_same =
+      let more : sum_by is_taken next_row + 1 ≡ sum_by is_taken row + 1 =
+      row_set is_taken row k (Accepted (noted_of note) true made) (Accepted (next_of note has) false anew) below
+      found in
+      omega arith
+
+  numbers_same : (x : ℕ) → sum_by (has_number x) next_row ≡ sum_by (has_number x) row
+  numbers_same x =
+      let more : sum_by (has_number x) next_row + same note.number x
+      ≡ sum_by (has_number x) row + same note.number x =
+      row_set (has_number x) row k (Accepted (noted_of note) true made) (Accepted (next_of note has) false anew)
+      below found in
+      omega arith
+
+  origins_next : sum_by lacks_origin next_row + cond (is_some note.origin) 0 1
+      ≡ sum_by lacks_origin row + cond has 0 1
+  origins_next = row_set lacks_origin row k (Accepted (noted_of note) true made)
+      (Accepted (next_of note has) false anew) below found
+
+  -- no client is lost, and no more are handed over than were given
+  pub all_noted : (tells : Bool) → IsNoted tells note old mid → GivesNobody mid new → HasAll row old
+      → HasAll next_row new
+  all_noted tells noted nobody all =
+      let taken = taken_same in
+      let handed = nobody.handed.handed in
+      let before = noted.handed in
+      let given = nobody.given in
+      let was = noted.given in omega arith
+
+  pub given_noted : (tells : Bool) → IsNoted tells note old mid → GivesNobody mid new
+      → new.counts.ends ≡ mid.counts.ends → new.counts.faults ≡ mid.counts.faults
+      → KeepsGiven row next_row old new
+  given_noted tells noted nobody ends faults = record {
+    net = record {
+      given = nobody.given ∙ noted.given;
+      ends = ends ∙ ap (λ (c : NetCounts). c.ends) noted.counts;
+      faults = faults ∙ ap (λ (c : NetCounts). c.faults) noted.counts;
+    };
+    no_more = λ few.
+        let taken = taken_same in
+        let handed = nobody.handed.handed in
+        let before = noted.handed in
+        let given = nobody.given in
+        let was = noted.given in omega arith;
+  }
+
+  -- and the balance stays right
+  pub balance_noted : (Done : Retired C O → Type 0) (misdials : ℕ) → IsNoted true note old mid
+      → GivesNobody mid new → Counted (not has) mid.counts.misdials new.counts.misdials
+      → IsBalanced Done misdials row old → IsBalanced Done misdials next_row new
+  balance_noted Done misdials noted nobody counted balance =
+      let told : new.retired ≡ old.retired = nobody.handed.retired ∙ noted.retired in
+      record {
+        each = subst (All Done) (sym told) balance.each;
+        once = λ x.
+            let was = balance.once x in
+            let handed : sum_by (had_number x) new.retired ≡ sum_by (had_number x) old.retired =
+            ap (sum_by (had_number x)) told in
+            let numbers = numbers_same x in
+            let are : is_given new x ≡ is_given old x =
+            ap (λ n. within 1 (n + 1) x) (nobody.given ∙ noted.given) in omega arith;
+        dialed =
+            let handed : sum_by lacked_origin new.retired ≡ sum_by lacked_origin old.retired =
+            ap (sum_by lacked_origin) told in
+            let next = origins_next in
+            let counts : mid.counts.misdials ≡ old.counts.misdials =
+            ap (λ (c : NetCounts). c.misdials) noted.counts in
+            let on = counted_on (not has) mid.counts.misdials new.counts.misdials counted in
+            elim balance.dialed [
+              | inl few ↦ elim (counted_one has mid.counts.misdials new.counts.misdials counted) [
+                | inl one ↦ inl (omega arith)
+                | inr end ↦ inr end
+              ]
+              | inr end ↦ inr (omega arith)
+            ];
       }
 
 module _ {C O : Type 0} where
@@ -175,14 +291,14 @@ module _ {C O : Type 0} where
       → HasAll again net
   all_row row again net alike all = let are = alike.taken in omega arith
 
-  pub all_in : (row : List Connection) (k number : ℕ) (has_origin : Bool) (old new : NetSeen C O)
+  pub all_in : (row : List Connection) (k number made : ℕ) (has_origin : Bool) (old new : NetSeen C O)
       → k < length row → get_or row k Free ≡ Free → new.given ≡ old.given + 1 → IsHandedNothing old new
-      → HasAll row old → HasAll (set row k (Accepted number has_origin false)) new
-  all_in row k number has_origin old new below free given nothing all =
+      → HasAll row old → HasAll (set row k (Accepted (first_of number has_origin) false made)) new
+  all_in row k number made has_origin old new below free given nothing all =
       let handed = nothing.handed in
-      let connected : sum_by is_taken (set row k (Accepted number has_origin false)) + 0
+      let connected : sum_by is_taken (set row k (Accepted (first_of number has_origin) false made)) + 0
       ≡ sum_by is_taken row + 1 =
-      row_set is_taken row k Free (Accepted number has_origin false) below free in omega arith
+      row_set is_taken row k Free (Accepted (first_of number has_origin) false made) below free in omega arith
 
   -- nor are more in the row or handed over than were given
 
@@ -192,29 +308,29 @@ module _ {C O : Type 0} where
       let free : sum_by is_taken (replicate places Free) ≡ 0 = free_sum is_taken refl places in
       let given = fresh.given in let handed = fresh.handed in omega arith
 
-  pub no_more_in : (row : List Connection) (k number : ℕ) (has_origin : Bool) (old new : NetSeen C O)
+  pub no_more_in : (row : List Connection) (k number made : ℕ) (has_origin : Bool) (old new : NetSeen C O)
       → k < length row → get_or row k Free ≡ Free → new.given ≡ old.given + 1 → IsHandedNothing old new
-      → HasNoMore row old → HasNoMore (set row k (Accepted number has_origin false)) new
-  no_more_in row k number has_origin old new below free given nothing few =
+      → HasNoMore row old → HasNoMore (set row k (Accepted (first_of number has_origin) false made)) new
+  no_more_in row k number made has_origin old new below free given nothing few =
       let handed = nothing.handed in
-      let connected : sum_by is_taken (set row k (Accepted number has_origin false)) + 0
+      let connected : sum_by is_taken (set row k (Accepted (first_of number has_origin) false made)) + 0
       ≡ sum_by is_taken row + 1 =
-      row_set is_taken row k Free (Accepted number has_origin false) below free in omega arith
+      row_set is_taken row k Free (Accepted (first_of number has_origin) false made) below free in omega arith
 
-  pub no_more_out : (row : List Connection) (k number : ℕ) (has_origin started : Bool) (old new : NetSeen C O)
-      → k < length row → get_or row k Free ≡ Accepted number has_origin started
+  pub no_more_out : (row : List Connection) (k : ℕ) (whose : Whose) (started : Bool) (made : ℕ)
+      (old new : NetSeen C O) → k < length row → get_or row k Free ≡ Accepted whose started made
       → new.handed ≡ old.handed + 1 → new.given ≡ old.given → HasNoMore row old
       → HasNoMore (set row k Free) new
-  no_more_out row k number has_origin started old new below found handed given few =
+  no_more_out row k whose started made old new below found handed given few =
       let less : sum_by is_taken (set row k Free) + 1 ≡ sum_by is_taken row + 0 =
-      row_set is_taken row k (Accepted number has_origin started) Free below found in omega arith
+      row_set is_taken row k (Accepted whose started made) Free below found in omega arith
 
-  pub all_out : (tells : Bool) (row : List Connection) (k number : ℕ) (has_origin started : Bool)
+  pub all_out : (tells : Bool) (row : List Connection) (k : ℕ) (whose : Whose) (started : Bool) (made : ℕ)
       (retired : Retired C O) (old new : NetSeen C O) → k < length row
-      → get_or row k Free ≡ Accepted number has_origin started → IsHanded tells retired old new → HasAll row old
+      → get_or row k Free ≡ Accepted whose started made → IsHanded tells retired old new → HasAll row old
       → HasAll (set row k Free) new
-  all_out tells row k number has_origin started retired old new below found handed all =
+  all_out tells row k whose started made retired old new below found handed all =
       let more = handed.handed in
       let given = handed.given in
       let less : sum_by is_taken (set row k Free) + 1 ≡ sum_by is_taken row + 0 =
-      row_set is_taken row k (Accepted number has_origin started) Free below found in omega arith
+      row_set is_taken row k (Accepted whose started made) Free below found in omega arith

@@ -15,7 +15,9 @@ use Rattle.ts_serve.specs.declared.acceptor.TheConstants.{PLACES}
 use Rattle.ts_serve.specs.declared.connection.Connection.{Connection}
 use Rattle.ts_serve.specs.declared.connection.Connection.TheVariants.{Free, Accepted}
 use Rattle.ts_serve.specs.declared.place.Place.{Place}
+use Rattle.ts_serve.specs.declared.whose.Whose.{Whose}
 use Rattle.ts_serve.specs.Starting.{OthersStay, RestStays}
+use Rattle.ts_serve.proofs.LookedAt.{one_whose}
 use Rattle.ts_serve.proofs.NowStarted.{rest_on}
 use Rattle.ts_serve.specs.TakingOut.{AreCleared, IsCleared, IsClosedOver}
 use Rattle.ts_serve.specs.Tenants.{HoldsRunning}
@@ -60,35 +62,26 @@ stand_none k j xs rest x none stand at =
     absurd (some-ne-none x (sym at ∙ sym same)))
     (cases_lt j k)
 
-module _ {W P Q R T U : Type 0} (number_of : W → ℕ) (holds_origin is_ended : W → Bool) where
+module _ {W P Q R T U : Type 0} (whose_of : W → Whose) (is_ended : W → Bool) where
   -- whoever was in the row for a place is not in it any more
   pub goes_out : (k : ℕ) (g : Group (Either (Place W) P) Q R T U) (row row' : List Connection)
-      → get_or row' k Free ≡ Free → IsCleared number_of holds_origin is_ended k g row row'
-  goes_out k g row row' out number has_origin started was = inl out
+      → get_or row' k Free ≡ Free → IsCleared whose_of is_ended k g row row'
+  goes_out k g row row' out whose started made was = inl out
 
   -- or stays in it, where its handler has not ended
-  pub runs_on : (k : ℕ) (g : Group (Either (Place W) P) Q R T U) (row row' : List Connection) (number : ℕ)
-      (has_origin started : Bool) → get_or row k Free ≡ Accepted number has_origin started
-      → HoldsRunning number_of holds_origin is_ended number has_origin g.world
-      → IsCleared number_of holds_origin is_ended k g row row'
-  runs_on k g row row' number has_origin started found runs other other_origin other_started was =
-      let both : Accepted number has_origin started ≡ Accepted other other_origin other_started =
-      sym found ∙ was in
-      let number_is : number ≡ other = cc in
-      let origin_is : has_origin ≡ other_origin = cc in
-      inr (record {
-        handler = runs.handler;
-        lives = runs.lives;
-        lasts = runs.lasts;
-        number_is = runs.number_is ∙ number_is;
-        origin_is = runs.origin_is ∙ origin_is;
-      })
+  pub runs_on : (k : ℕ) (g : Group (Either (Place W) P) Q R T U) (row row' : List Connection) (whose : Whose)
+      (started : Bool) (made : ℕ) → get_or row k Free ≡ Accepted whose started made
+      → HoldsRunning whose_of is_ended whose g.world → IsCleared whose_of is_ended k g row row'
+  runs_on k g row row' whose started made found runs other since anew was =
+      let both : Accepted whose started made ≡ Accepted other since anew = sym found ∙ was in
+      inr (subst (λ (v : Whose). HoldsRunning whose_of is_ended v g.world)
+      (one_whose whose other started since made anew both) runs)
 
   -- the first k places are cleared, and the others are what they were
   pub record AreClearedTo (k : ℕ) (groups : List (Group (Either (Place W) P) Q R T U)) (old new : List Connection) :
       Type 0 where
     pub each : (j : ℕ) (g : Group (Either (Place W) P) Q R T U) → j < k → get_elem? groups j ≡ some g
-        → IsCleared number_of holds_origin is_ended j g old new
+        → IsCleared whose_of is_ended j g old new
     pub rest : RestStays k old new
 
   -- the same, unless memory lacked for one of them
@@ -107,39 +100,38 @@ module _ {W P Q R T U : Type 0} (number_of : W → ℕ) (holds_origin is_ended :
   last_cleared : (k j : ℕ) (groups : List (Group (Either (Place W) P) Q R T U)) (old mid new : List Connection)
       (g h : Group (Either (Place W) P) Q R T U) → j ≡ k → get_elem? groups k ≡ some g
       → get_elem? groups j ≡ some h → RestStays k old mid
-      → IsCleared number_of holds_origin is_ended k g mid new
-      → IsCleared number_of holds_origin is_ended j h old new
+      → IsCleared whose_of is_ended k g mid new
+      → IsCleared whose_of is_ended j h old new
   last_cleared k j groups old mid new g h here at there rest one =
       let found : get_elem? groups k ≡ some h = subst (λ (i : ℕ). get_elem? groups i ≡ some h) here there in
-      let since : IsCleared number_of holds_origin is_ended k g old new =
-      λ number has_origin started was. one number has_origin started (rest k (omega arith) ∙ was) in
-      subst (λ (i : ℕ). IsCleared number_of holds_origin is_ended i h old new) (sym here)
-      (subst (λ x. IsCleared number_of holds_origin is_ended k x old new)
+      let since : IsCleared whose_of is_ended k g old new =
+      λ whose started made was. one whose started made (rest k (omega arith) ∙ was) in
+      subst (λ (i : ℕ). IsCleared whose_of is_ended i h old new) (sym here)
+      (subst (λ x. IsCleared whose_of is_ended k x old new)
       (place_once groups k g h at found) since)
 
   -- what a place came to, where its connection is what it was
-  stays_cleared : (j : ℕ) (g : Group (Either (Place W) P) Q R T U) (mid new : List Connection) (number : ℕ)
-      (has_origin : Bool) → get_or new j Free ≡ get_or mid j Free
-      → (get_or mid j Free ≡ Free) ⊎ HoldsRunning number_of holds_origin is_ended number has_origin g.world
-      → (get_or new j Free ≡ Free) ⊎ HoldsRunning number_of holds_origin is_ended number has_origin g.world
-  stays_cleared j g mid new number has_origin same (inl out) = inl (same ∙ out)
-  stays_cleared j g mid new number has_origin same (inr runs) = inr runs
+  stays_cleared : (j : ℕ) (g : Group (Either (Place W) P) Q R T U) (mid new : List Connection)
+      (whose : Whose) → get_or new j Free ≡ get_or mid j Free
+      → (get_or mid j Free ≡ Free) ⊎ HoldsRunning whose_of is_ended whose g.world
+      → (get_or new j Free ≡ Free) ⊎ HoldsRunning whose_of is_ended whose g.world
+  stays_cleared j g mid new whose same (inl out) = inl (same ∙ out)
+  stays_cleared j g mid new whose same (inr runs) = inr runs
 
   -- one place more
   pub one_more_cleared : (k : ℕ) (groups : List (Group (Either (Place W) P) Q R T U)) (old mid new : List Connection)
       (g : Group (Either (Place W) P) Q R T U) → get_elem? groups k ≡ some g → OthersStay k mid new
-      → IsCleared number_of holds_origin is_ended k g mid new → AreClearedTo k groups old mid
+      → IsCleared whose_of is_ended k g mid new → AreClearedTo k groups old mid
       → AreClearedTo (k + 1) groups old new
   one_more_cleared k groups old mid new g at others one before = record {
-    each = λ j h low there number has_origin started was.
+    each = λ j h low there whose started made was.
         ⊎_elim
         (λ (less : j < k).
         let apart : j ≢ k = λ is. absurd (omega arith) in
-        stays_cleared j h mid new number has_origin (others j apart)
-        (before.each j h less there number has_origin started was))
+        stays_cleared j h mid new whose (others j apart) (before.each j h less there whose started made was))
         (λ (not : k ≤ j).
         let here : j ≡ k = omega arith in
-        last_cleared k j groups old mid new g h here at there before.rest one number has_origin started was)
+        last_cleared k j groups old mid new g h here at there before.rest one whose started made was)
         (cases_lt j k);
     rest = rest_on k old mid new before.rest others;
   }
@@ -148,7 +140,7 @@ module _ {W P Q R T U : Type 0} (number_of : W → ℕ) (holds_origin is_ended :
   pub clears_more : {E : Type 0} (k : ℕ) (groups : List (Group (Either (Place W) P) Q R T U))
       (old mid new : List Connection) (g : Group (Either (Place W) P) Q R T U) (answer : Result (Unit {0}) E)
       → get_elem? groups k ≡ some g → OthersStay k mid new
-      → IsCleared number_of holds_origin is_ended k g mid new → ClearsOn k groups old mid answer
+      → IsCleared whose_of is_ended k g mid new → ClearsOn k groups old mid answer
       → ClearsOn (k + 1) groups old new answer
   clears_more k groups old mid new g (Ok u) at others one before =
       one_more_cleared k groups old mid new g at others one before
@@ -159,7 +151,7 @@ module _ {W P Q R T U : Type 0} (number_of : W → ℕ) (holds_origin is_ended :
       (answer : Result (Unit {0}) E)
       → ((j : ℕ) (g : Group (Either (Place W) P) Q R T U) → j < PLACES → get_elem? groups j ≡ some g → j < k)
       → ClearsOn k groups old new answer
-      → OnOk answer (AreCleared number_of holds_origin is_ended groups old new)
+      → OnOk answer (AreCleared whose_of is_ended groups old new)
   all_cleared k groups old new (Ok u) behind on = λ j g low at. on.each j g (behind j g low at) at
   all_cleared k groups old new (Err e) behind on = tt
 
@@ -169,15 +161,15 @@ module _ {W P Q R T U : Type 0} (number_of : W → ℕ) (holds_origin is_ended :
       (handled : Result (Unit {0}) E) (cleared : Result (Unit {0}) F)
       → found ≡ take count (left ++ drop (length left) old) → length left ≡ count → length left ≡ length tags
       → handled ≡ Ok tt → OnOk handled (All IsIdle left) → cleared ≡ Ok tt
-      → OnOk cleared (AreCleared number_of holds_origin is_ended (take count (left ++ drop (length left) old))
-      row row') → IsClosedOver number_of holds_origin is_ended tags found row row'
+      → OnOk cleared (AreCleared whose_of is_ended (take count (left ++ drop (length left) old))
+      row row') → IsClosedOver whose_of is_ended tags found row row'
   closed_over tags count left old found row row' handled cleared same long many done idle all out =
-      let there : IsClosedOver number_of holds_origin is_ended tags (take count (left ++ drop (length left) old))
+      let there : IsClosedOver whose_of is_ended tags (take count (left ++ drop (length left) old))
       row row' = record {
         count = taken_table (λ gs. length gs ≡ length tags) count left old long many;
         idle = taken_table (λ gs. All IsIdle gs) count left old long
             (subst (λ r. OnOk r (All IsIdle left)) done idle);
-        cleared = subst (λ r. OnOk r (AreCleared number_of holds_origin is_ended
+        cleared = subst (λ r. OnOk r (AreCleared whose_of is_ended
             (take count (left ++ drop (length left) old)) row row')) all out;
       } in
-      subst (λ gs. IsClosedOver number_of holds_origin is_ended tags gs row row') (sym same) there
+      subst (λ gs. IsClosedOver whose_of is_ended tags gs row row') (sym same) there

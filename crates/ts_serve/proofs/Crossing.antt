@@ -31,4 +31,4 @@ module _ (C O P : RattleType) (g : link.Ghosts C.Denot) (h : link.Ghosts O.Denot
       let row = inside.the_type C O P g h in
       view_send (inside.the_row C O P g h) _ _ _ _
       (recorded_send (inside.the_field C O P g h).row _ _ row.to_one
-      (struct_send (shape row) (txn.the_field_send _ _ P client origin p, tt)))
+      (struct_send (shape row) (txn.the_field_send _ _ P client origin p, (search (crosses, sendable), tt))))

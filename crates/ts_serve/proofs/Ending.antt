@@ -1,5 +1,5 @@
 -- A transaction in a place, with its layers: how it comes there, and what is left of it.
-use Rattle.std.proofs.Common.{◌≡◌, ◌∙◌, ℕ, List, [], Option, Some, None, Bool, true, false, is_some, refl}
+use Rattle.std.proofs.Common.{◌≡◌, ◌⊎◌, ◌∙◌, ◌+◌, inl, inr, ℕ, List, [], arith, Option, Some, None, Bool, true, false, is_some, refl}
 use Rattle.std.proofs.Common.{sym, ap, subst}
 use Rattle.std.specs.Prelude.{IfSome}
 use Rattle.ts_config.specs.declared.setup.TransformLine.{TransformLine}
@@ -22,8 +22,12 @@ use Rattle.ts_txn.specs.declared.txn.Txn.{Txn}
 use Rattle.ts_txn.specs.declared.txn.TxnTag.{TxnTag}
 use Rattle.ts_serve.specs.Arrivals.{IsArrival}
 use Rattle.ts_serve.specs.Exchanges.{KeepsTerms}
+use Rattle.ts_serve.specs.Places.{FitsAtPlace}
 use Rattle.ts_serve.specs.Tenants.{MayLive}
 use Rattle.ts_serve.specs.declared.exchanges.TxnTerms.{TxnTerms}
+use Rattle.ts_serve.specs.Whose.{first_of, next_of}
+use Rattle.ts_serve.specs.declared.whose.Whose.{Whose}
+use Rattle.ts_txn.specs.declared.retired.Noted.{Noted}
 
 -- an end, where there is one
 pub some_end : {A : Type 0} (o : Option A) → is_some o ≡ true → (a : A) × (o ≡ Some a)
@@ -68,19 +72,47 @@ pub lives_made : {C O P : Type 0} (client : link.Ghosts C) (origin : link.Ghosts
     → IsTxnOf (client_link client) (origin_link origin) tag t
     → ((next : ℕ) (roles : List Named) → IsSoundTxn (client_link client) (origin_link origin)
     (origin_uploads client origin both stage) stage t [] next roles)
-    → MayLive (IsTxnOf (client_link client) (origin_link origin)) (KeepsTerms client.look)
+    → (place : ℕ) → MayLive (FitsAtPlace (IsTxnOf (client_link client) (origin_link origin)))
+    (λ v u. KeepsTerms client.look v u.value)
     (λ u s roles. IsSoundTxn (client_link client) (origin_link origin)
-    (origin_uploads client origin both stage) stage u s.pending s.next roles) terms t
-lives_made client origin both stage ends promise terms tag t tagged at fits sound =
+    (origin_uploads client origin both stage) stage u.value s.pending s.next roles) terms
+    (record { value = t; place = place })
+lives_made client origin both stage ends promise terms tag t tagged at fits sound place =
     let keeps : KeepsTerms client.look terms tag =
     record { ends = ends; ends_are = at; promise = promise; tag_is = tagged } in
     record {
-      fits = (tag, keeps, fits);
+      fits = (record { value = tag; place = place }, keeps, record { value = fits; place = refl });
       sound = λ s roles none.
           subst (λ ps. IsSoundTxn (client_link client) (origin_link origin)
           (origin_uploads client origin both stage) stage t ps s.next roles) (sym none)
           (sound s.next roles);
     }
+
+-- the same number and origin, at the same place, are of the same one
+pub same_whose : {number again place : ℕ} {has has' : Bool} → number ≡ again → has ≡ has'
+    → ◌≡◌ {A = Whose} (record { number = number; place = place; has_origin = has })
+    (record { number = again; place = place; has_origin = has' })
+same_whose number_is origin_is = cc
+
+-- the first one after a transaction at no place is the one at the first place
+pub next_first : {O : Type 0} (noted : Noted O) (number : ℕ) (has : Bool) → noted.place ≡ 0
+    → number ≡ noted.number → first_of number has ≡ next_of noted has
+next_first noted number has none is =
+    let place : 1 ≡ noted.place + 1 = omega (arith, none) in
+    let at : ℕ → Whose = λ p. record { number = noted.number; place = p; has_origin = has } in
+    ap (λ n. first_of n has) is ∙ ap at place
+
+-- a client that came is one with an origin that was reached for it
+pub came_with : {C O : Type 0} (client : link.Ghosts C) (origin : link.Ghosts O) (both : upstream.Ghosts O C)
+    (number : ℕ) (c : C) (o : Option O) → IsArrival client origin both number c None
+    → IfSome o (IsNextOrigin origin both) → IsArrival client origin both number c o
+came_with client origin both number c o came reached =
+    record { named = came.named; unused = came.unused; reached = reached }
+
+-- one that does not wait has ended
+pub stood_ended : {ended : Bool} {P : Type 0} → ((ended ≡ true) × P) ⊎ (false ≡ true) → (ended ≡ true) × P
+stood_ended (inl is) = is
+stood_ended (inr wrong) = absurd (cc)
 
 -- a transaction with layers has the number of its ends
 pub made_number : {C O P : Type 0} (ends : Ends C O) (promise : Promise)

@@ -12,8 +12,10 @@ mod Askers
 mod NowStarted
 mod Cleared
 mod LookedAt
+mod Follows
 mod Tried
 mod Asked
 mod Later
 mod Settled
 mod Crossing
+mod AtPlaces

@@ -15,6 +15,7 @@ use Rattle.ts_thread.specs.Started.{IsFirst}
 use Rattle.ts_serve.specs.declared.connection.Connection.{Connection}
 use Rattle.ts_serve.specs.declared.connection.Connection.TheVariants.{Free, Accepted}
 use Rattle.ts_serve.specs.declared.place.Place.{Place}
+use Rattle.ts_serve.specs.declared.whose.Whose.{Whose}
 use Rattle.ts_serve.specs.Places.{PlaceBegun, PlaceFits, PlaceSound}
 use Rattle.ts_serve.specs.Starting.{OthersStay, RestStays, IsNowStarted, IsStartedAt, WereStartedAt}
 use Rattle.ts_serve.proofs.Later.{ServerDesk, started_later}
@@ -23,10 +24,10 @@ use Rattle.ts_serve.proofs.Later.{ServerDesk, started_later}
 pub none_now : (k : ℕ) (old new : List Connection) → get_or new k Free ≡ get_or old k Free → IsNowStarted k old new
     → ⊥
 none_now k old new same now =
-    two_sides now.number now.number now.has_origin now.has_origin (sym now.was ∙ sym same ∙ now.is)
+    two_sides now.whose now.whose now.made now.made (sym now.was ∙ sym same ∙ now.is)
   where
-    two_sides : (n m : ℕ) (a b : Bool) → Accepted n a false ≡ Accepted m b true → ⊥
-    two_sides n m a b is = absurd (cc)
+    two_sides : (v w : Whose) (n m : ℕ) → Accepted v false n ≡ Accepted w true m → ⊥
+    two_sides v w n m is = absurd (cc)
 
 -- the connections behind the next place stay, where that alone changes
 pub rest_on : (k : ℕ) (old mid new : List Connection) → RestStays k old mid → OthersStay k mid new
@@ -62,8 +63,8 @@ module _ {W T A P V Q R U : Type 0}
       (λ (before : j < k).
       let apart : j ≢ k = λ is. absurd (omega arith) in
       started_on j most desk next keeps (were j before (record {
-        number = now.number;
-        has_origin = now.has_origin;
+        whose = now.whose;
+        made = now.made;
         was = now.was;
         is = sym (others j apart) ∙ now.is;
       })))
@@ -72,8 +73,8 @@ module _ {W T A P V Q R U : Type 0}
       subst (λ (i : ℕ). IsStartedAt Fits Keeps Begun Sound Other OtherBegun SoundOther is_first tags i next)
       (sym here)
       (own (subst (λ (i : ℕ). IsNowStarted i mid new) here (record {
-        number = now.number;
-        has_origin = now.has_origin;
+        whose = now.whose;
+        made = now.made;
         was = rest j not ∙ now.was;
         is = now.is;
       }))))

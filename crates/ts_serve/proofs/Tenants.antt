@@ -1,5 +1,5 @@
 -- Who lives in a place, from when it is let in until it has ended.
-use Rattle.std.proofs.Common.{◌≡◌, ℕ, suc, ◌+◌, ◌<◌, List, [], ◌∷◌, Bool, false, refl, sym, ap, ◌∙◌, subst, arith}
+use Rattle.std.proofs.Common.{◌≡◌, ℕ, suc, ◌+◌, ◌<◌, List, [], ◌∷◌, inl, Bool, false, refl, sym, ap, ◌∙◌, subst, arith}
 use Rattle.std.proofs.Common.{get_or, length, set}
 use Rattle.std.proofs.lemmas.List.{get_or-set_same}
 use Rattle.ts_lists.proofs.Places.{place_once}
@@ -17,13 +17,14 @@ use Rattle.ts_group.specs.Either.{EitherFits, EitherSound, tag_of}
 use Rattle.ts_group.specs.Slot.{IsAtRest}
 use Rattle.ts_thread.specs.Tags.{GroupFits}
 use Rattle.ts_serve.specs.Places.{PlaceFits, PlaceSound}
-use Rattle.ts_serve.specs.Tenants.{FitPlacesFrom, FitsServer, FitsTerms, HasEndedIn, IsEmptyGroup, HoldsEnded, IsPlace, IsPlaceOf, MayLiveAt}
+use Rattle.ts_serve.specs.Tenants.{FitPlacesFrom, FitsServer, FitsTerms, HasEndedIn, HasStoodIn, IsEmptyGroup, HoldsEnded, IsPlace, IsPlaceOf, MayLiveAt}
 use Rattle.ts_serve.specs.Tenants.{HoldsHandler, StandsAccepted}
 use Rattle.ts_serve.specs.declared.acceptor.TheConstants.{PLACES}
 use Rattle.ts_serve.specs.declared.connection.Connection.{Connection}
 use Rattle.ts_serve.specs.declared.connection.Connection.TheVariants.{Accepted, Free}
 use Rattle.ts_serve.specs.declared.place.Place.{Place}
 use Rattle.ts_serve.specs.declared.place.Place.TheVariants.{Tenant}
+use Rattle.ts_serve.specs.declared.whose.Whose.{Whose}
 
 -- one handler lives in a place
 pub one_handler : {W P : Type 0} (v w : W) → ◌≡◌ {A = Either (Place W) P} (One (Tenant v)) (One (Tenant w))
@@ -98,13 +99,13 @@ module _ {W T A P U : Type 0} (Fits : T → W → Type 0) (Keeps : A → T → T
       (here 0 g (omega arith) refl, λ j h low at. here (suc j) h (omega arith) at)
 
   -- the handler of a place that has ended has ended in it
-  pub ended_in : (number_of : W → ℕ) (holds_origin is_ended : W → Bool) (number : ℕ) (has_origin : Bool)
+  pub ended_in : (whose_of : W → Whose) (is_ended : W → Bool) (whose : Whose)
       (terms : A) (g : Group (Either (Place W) P) Q R (EitherTag A U) X) (w : W) (journal : Log)
-      → HoldsEnded Sound number_of holds_origin is_ended number has_origin g.world → g.world ≡ One (Tenant w)
+      → HoldsEnded Sound whose_of is_ended whose g.world → g.world ≡ One (Tenant w)
       → journal ≡ g.cx.log → IsKept g.cx.log
       → FitsTerms Fits Keeps Sound Other SoundOther only_asked is_first terms g
       → HasEndedIn Fits Keeps Sound is_ended terms w journal
-  ended_in number_of holds_origin is_ended number has_origin terms g w journal over is same kept fits =
+  ended_in whose_of is_ended whose terms g w journal over is same kept fits =
       let handler : over.handler ≡ w = one_handler over.handler w (sym over.lives ∙ is) in
       let sound : Sound w g.cx.log.state g.cx.roles =
       subst (λ v. EitherSound (PlaceSound Sound) SoundOther v g.cx.log.state g.cx.roles) is fits.1 in
@@ -119,20 +120,28 @@ module _ {W T A P U : Type 0} (Fits : T → W → Type 0) (Keeps : A → T → T
         final = is_final g.cx.log kept fits.2.0 rests;
       })
 
+-- one that has ended in a place has stood there
+pub stood_in : {W T A : Type 0} (Fits : T → W → Type 0) (Keeps : A → T → Type 0)
+    (Sound : W → State → List Named → Type 0) (is_ended may_wait : W → Bool) (terms : A) (w : W) (journal : Log)
+    → HasEndedIn Fits Keeps Sound is_ended terms w journal
+    → HasStoodIn Fits Keeps Sound is_ended may_wait terms w journal
+stood_in Fits Keeps Sound is_ended may_wait terms w journal ended = record {
+  fits = ended.fits;
+  roles = ended.roles;
+  sound = ended.sound;
+  stood = inl (ended.ended, ended.final);
+}
+
 -- a handler that was left in the place of its client stands there
-pub stands_accepted : {W P Q R T U : Type 0} (number_of : W → ℕ) (holds_origin : W → Bool)
+pub stands_accepted : {W P Q R T U : Type 0} (whose_of : W → Whose)
     (known : List (ℕ × ℕ × Group (Either (Place W) P) Q R T U)) (row old : List Connection)
-    (k group turn number : ℕ) (has_origin : Bool) (w : W) → k < length old
-    → row ≡ set old k (Accepted number has_origin false) → number_of w ≡ number
-    → holds_origin w ≡ has_origin → group ≡ k → HoldsHandler group turn w known
-    → StandsAccepted number_of holds_origin known row k
-stands_accepted number_of holds_origin known row old k group turn number has_origin w below is number_is
-    origin_is here holds = record {
-      turn = turn;
-      handler = w;
-      holds = subst (λ n. HoldsHandler n turn w known) here holds;
-      accepted = ap (λ r. get_or r k Free) is
-          ∙ get_or-set_same old k (Accepted number has_origin false) Free below
-          ∙ ap (λ n. Accepted n has_origin false) (sym number_is)
-          ∙ ap (λ b. Accepted (number_of w) b false) (sym origin_is);
-    }
+    (k group turn : ℕ) (whose : Whose) (w : W) → k < length old
+    → row ≡ set old k (Accepted whose false turn) → whose_of w ≡ whose → group ≡ k
+    → HoldsHandler group turn w known → StandsAccepted whose_of known row k
+stands_accepted whose_of known row old k group turn whose w below is whose_is here holds = record {
+  turn = turn;
+  handler = w;
+  holds = subst (λ n. HoldsHandler n turn w known) here holds;
+  accepted = ap (λ r. get_or r k Free) is ∙ get_or-set_same old k (Accepted whose false turn) Free below
+      ∙ ap (λ v. Accepted v false turn) (sym whose_is);
+}

@@ -83,6 +83,12 @@ pub record IsNotAsked {C O : Type 0} (old new : NetSeen C O) : Type 0 where
   pub given : new.given ≡ old.given
   pub counts : new.counts ≡ old.counts
 
+-- the net was not asked for a client; it may have been asked for the origin of one
+pub record IsNotAccepting {C O : Type 0} (old new : NetSeen C O) : Type 0 where
+  pub given : new.given ≡ old.given
+  pub ends : new.counts.ends ≡ old.counts.ends
+  pub faults : new.counts.faults ≡ old.counts.faults
+
 -- no client is lost on the way: if each that was given is in the row or was handed over, each is so then
 abbrev pub LosesNobody : {C O : Type 0} → Acceptor → Acceptor → NetSeen C O → NetSeen C O → Type 0
 LosesNobody old new before after = HasAll old.row.items before → HasAll new.row.items after

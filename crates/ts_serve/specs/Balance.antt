@@ -11,21 +11,22 @@ use Rattle.ts_serve.specs.declared.connection.Connection.{Connection}
 use Rattle.ts_serve.specs.declared.connection.Connection.TheVariants.{Free, Accepted}
 use Rattle.ts_serve.specs.declared.arrival.Arrival.{Arrival}
 use Rattle.ts_serve.specs.declared.arrival.Arrival.TheVariants as arrival
+use Rattle.ts_serve.specs.Whose.{first_of}
 
 -- 1 where the client of this number is in the row, and else 0
 abbrev pub has_number : ℕ → Connection → ℕ
 has_number x Free = 0
-has_number x (Accepted number has_origin started) = same number x
+has_number x (Accepted whose started made) = same whose.number x
 
 -- 1 where a client is in the row
 abbrev pub is_taken : Connection → ℕ
 is_taken Free = 0
-is_taken (Accepted number has_origin started) = 1
+is_taken (Accepted whose started made) = 1
 
 -- 1 where a client is in the row for which no origin was reached
 abbrev pub lacks_origin : Connection → ℕ
 lacks_origin Free = 0
-lacks_origin (Accepted number has_origin started) = cond has_origin 0 1
+lacks_origin (Accepted whose started made) = cond whose.has_origin 0 1
 
 -- The same clients are in the row; which of their handlers were started may differ.
 pub record IsSameRow (old new : List Connection) : Type 0 where
@@ -72,7 +73,8 @@ module _ {C O : Type 0} where
   abbrev pub HasNoMore : List Connection → NetSeen C O → Type 0
   HasNoMore row net = net.handed + sum_by is_taken row ≤ net.given
 
-  -- the row once who came to the place k is in the row
-  abbrev pub row_after : ℕ → ℕ → Arrival C O → List Connection → List Connection
-  row_after k number (arrival.Came client origin) row = set row k (Accepted number (is_some origin) false)
-  row_after k number _ row = row
+  -- the row once who came to the place k is in the row, whose handler's group is made with so many turns
+  abbrev pub row_after : ℕ → ℕ → ℕ → Arrival C O → List Connection → List Connection
+  row_after k number made (arrival.Came client origin) row =
+      set row k (Accepted (first_of number (is_some origin)) false made)
+  row_after k number made _ row = row

@@ -1,6 +1,9 @@
 -- The definitions that the contracts of the server of a net cite.
 pub mod Places
 pub mod Tenants
+pub mod Whose
+pub mod Leaving
+pub mod Stepping
 pub mod TakingOut
 pub mod Arrivals
 pub mod Balance

@@ -5,12 +5,18 @@ use Rattle.ts_journal.specs.State.{State}
 use Rattle.ts_group.specs.declared.action.Named.{Named}
 use Rattle.ts_group.specs.declared.world.Asked.{Asked}
 use Rattle.ts_serve.specs.declared.place.Place.{Place}
+use Rattle.ts_serve.specs.declared.placed.AtPlace.{AtPlace}
 use Rattle.ts_serve.specs.declared.place.Place.TheVariants.{Empty, Tenant}
 
 -- Whoever lives there fits a tag of its own, which keeps the terms of the place.
 abbrev pub PlaceFits : {W T A : Type 0} → (T → W → Type 0) → (A → T → Type 0) → A → Place W → Type 0
 PlaceFits Fits Keeps terms Empty = ⊤
 PlaceFits {T = T} Fits Keeps terms (Tenant w) = (tag : T) × Keeps terms tag × Fits tag w
+
+-- What fits a tag at a place among the transactions of a client is at that place.
+pub record FitsAtPlace {S T : Type 0} (Fits : S → T → Type 0) (tag : AtPlace S) (t : AtPlace T) : Type 0 where
+  pub value : Fits tag.value t.value
+  pub place : t.place ≡ tag.place
 
 -- what holds between calls; in an empty place nothing is pending
 abbrev pub PlaceSound : {W : Type 0} → (W → State → List Named → Type 0) → Place W → State → List Named

@@ -21,7 +21,7 @@ use Rattle.ts_serve.specs.Places.{PlaceFits, PlaceSound}
 -- a handler was started there that serves the client of a number
 abbrev pub serves_client : ℕ → Connection → Bool
 serves_client number Free = false
-serves_client number (Accepted here has_origin started) = started && (here == number)
+serves_client number (Accepted whose started made) = started && (whose.number == number)
 
 -- the place k has such a handler
 abbrev pub IsPlaceFor : ℕ → ℕ → List Connection → Type 0

@@ -17,6 +17,7 @@ use Rattle.ts_thread.specs.Started.{IsFirst, Started}
 use Rattle.ts_serve.specs.declared.connection.Connection.{Connection}
 use Rattle.ts_serve.specs.declared.connection.Connection.TheVariants.{Free, Accepted}
 use Rattle.ts_serve.specs.declared.place.Place.{Place}
+use Rattle.ts_serve.specs.declared.whose.Whose.{Whose}
 use Rattle.ts_serve.specs.Places.{PlaceFits, PlaceSound, PlaceBegun}
 
 -- the connections of other places are what they were
@@ -29,15 +30,15 @@ RestStays k old new = (j : ℕ) → k ≤ j → get_or new j Free ≡ get_or old
 
 -- The handler of the place k is in the row as one that was started, and had been in the row as one that was not.
 pub record IsNowStarted (k : ℕ) (old new : List Connection) : Type 0 where
-  pub number : ℕ
-  pub has_origin : Bool
-  pub was : get_or old k Free ≡ Accepted number has_origin false
-  pub is : get_or new k Free ≡ Accepted number has_origin true
+  pub whose : Whose
+  pub made : ℕ
+  pub was : get_or old k Free ≡ Accepted whose false made
+  pub is : get_or new k Free ≡ Accepted whose true made
 
 -- 1 where a client is in the row whose handler waits to be started
 abbrev pub is_waiting : Connection → ℕ
 is_waiting Free = 0
-is_waiting (Accepted number has_origin started) = cond started 0 1
+is_waiting (Accepted whose started made) = cond started 0 1
 
 -- Where the handler of the place k waits to be started still, it was tried: another seat held the place, and the
 -- seat missed once more.

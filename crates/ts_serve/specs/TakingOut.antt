@@ -1,79 +1,77 @@
 -- How a handler that has ended is taken out of its place, and why one was not.
-use Rattle.std.specs.Prelude.{◌≡◌, ◌⊎◌, ℕ, ◌<◌, All, List, Bool, true, Option, Some, None, get_or, length}
-use Rattle.std.specs.Prelude.{set}
+use Rattle.std.specs.Prelude.{◌≡◌, ◌⊎◌, ℕ, ◌<◌, All, List, Bool, true, get_or, length}
 use mathlib.Core.Option.{some}
 use lib.ListN.{get_elem?}
 use Rattle.ts_journal.specs.State.{State}
+use Rattle.ts_journal.specs.declared.slotted.Slotted.{Ghosts}
 use Rattle.ts_group.specs.declared.action.Named.{Named}
 use Rattle.ts_group.specs.declared.either.Either.{Either}
 use Rattle.ts_group.specs.declared.group.Group.{Group}
+use Rattle.ts_slot.specs.declared.seat.Turn.{Turn}
 use Rattle.ts_slot.specs.declared.view.SeatView.{SeatView}
 use Rattle.ts_slot.specs.Lists.{Each}
-use Rattle.ts_thread.specs.Entering.{FindsHeld}
+use Rattle.ts_thread.specs.Entering.{Finds, FindsHeld, KeepsOnceLeft}
 use Rattle.ts_thread.specs.Goings.{IsIdle}
 use Rattle.ts_thread.specs.Seats.{KnowsTurn}
-use Rattle.ts_serve.specs.Tenants.{HoldsEnded, HoldsRunning, IsEmptyGroup}
+use Rattle.ts_serve.specs.Stepping.{ComesTo}
+use Rattle.ts_serve.specs.Tenants.{HoldsEnded, HoldsRunning}
 use Rattle.ts_serve.specs.declared.acceptor.TheConstants.{PLACES}
 use Rattle.ts_serve.specs.declared.connection.Connection.{Connection}
 use Rattle.ts_serve.specs.declared.connection.Connection.TheVariants.{Accepted, Free}
 use Rattle.ts_serve.specs.declared.place.Place.{Place}
+use Rattle.ts_serve.specs.declared.whose.Whose.{Whose}
 
-module _ {W P Q R T U : Type 0} (Sound : W → State → List Named → Type 0) (number_of : W → ℕ)
-    (holds_origin is_ended : W → Bool) where
-  -- in the group lives the handler of this client, with an origin or without one, which has ended
-  abbrev pub HasEndedAt : ℕ → Bool → Group (Either (Place W) P) Q R T U → Type 0
-  HasEndedAt number has_origin g = HoldsEnded Sound number_of holds_origin is_ended number has_origin g.world
+module _ {W P Q R T U : Type 0} (Sound : W → State → List Named → Type 0) (whose_of : W → Whose)
+    (is_ended : W → Bool) where
+  -- in the group, which was made with so many turns, lives this handler, which has ended
+  abbrev pub HasEndedAt : Whose → ℕ → Group (Either (Place W) P) Q R T U → Type 0
+  HasEndedAt whose made g =
+      HoldsEnded Sound whose_of is_ended whose g.world × (g.cx.log.base.made ≡ made)
 
-  -- What came out of the group k, in this turn, is the group that was found, whose handler has ended. The seat
-  -- knows that the group of an empty place was left.
-  pub record ComesOut (number : ℕ) (has_origin : Bool) (k turn : ℕ) (found out : Group (Either (Place W) P) Q R T U)
+  -- The seat won the group k last, as it was found, and this handler has ended there.
+  pub record EntersEnded
+      {d : Ghosts (Group (Either (Place W) P) Q R T U) T (Group (Either (Place W) P) Q R T U)} (tags : List T)
+      (whose : Whose) (made k : ℕ) (old new : SeatView T (Group (Either (Place W) P) Q R T U))
+      (turn : Turn (Group (Either (Place W) P) Q R T U) T (Group (Either (Place W) P) Q R T U) d) : Type 0 where
+    pub group : turn.group ≡ k
+    pub finds : Finds tags new turn
+    pub ended : HasEndedAt whose made turn.boxed.value
+    pub keeps : KeepsOnceLeft old new
+
+  -- This handler has not ended in the group k that was found in this turn, which the seat knows to be left as it
+  -- was.
+  pub record StaysIn (whose : Whose) (made k turn : ℕ) (found : Group (Either (Place W) P) Q R T U)
       (known : List (ℕ × ℕ × Group (Either (Place W) P) Q R T U)) : Type 0 where
-    pub found_is : out ≡ found
-    pub ended : HasEndedAt number has_origin out
-    pub left : Group (Either (Place W) P) Q R T U
-    pub empty : IsEmptyGroup turn left
-    pub knows : KnowsTurn k turn left known
-
-  -- The handler of this client has not ended in the group k that was found in this turn, which the seat knows
-  -- to be left as it was.
-  pub record StaysIn (number : ℕ) (has_origin : Bool) (k turn : ℕ) (found : Group (Either (Place W) P) Q R T U)
-      (known : List (ℕ × ℕ × Group (Either (Place W) P) Q R T U)) : Type 0 where
-    pub lives_on : HasEndedAt number has_origin found → ⊥
+    pub lives_on : HasEndedAt whose made found → ⊥
     pub knows : KnowsTurn k turn found known
 
-  -- a handler that has ended comes out, and one that has not stays
-  abbrev pub IsTakenOut : ℕ → Bool → ℕ → ℕ → Group (Either (Place W) P) Q R T U
-      → List (ℕ × ℕ × Group (Either (Place W) P) Q R T U) → Option (Group (Either (Place W) P) Q R T U) → Type 0
-  IsTakenOut number has_origin k turn found known (Some out) = ComesOut number has_origin k turn found out known
-  IsTakenOut number has_origin k turn found known None = StaysIn number has_origin k turn found known
-
-  -- in a turn after all that the seat knew of the group k the handler of this client had not ended there
-  pub record LivesOn {G : Type 0} (number : ℕ) (has_origin : Bool) (k : ℕ)
+  -- in a turn after all that the seat knew of the group k this handler had not ended there
+  pub record LivesOn {G : Type 0} (whose : Whose) (made k : ℕ)
       (old new : SeatView G (Group (Either (Place W) P) Q R T U)) : Type 0 where
     pub turn : ℕ
     pub later : Each (λ e. e.0 ≡ k → e.1 < turn) old.known
     pub found : Group (Either (Place W) P) Q R T U
-    pub stays : StaysIn number has_origin k turn found new.known
+    pub stays : StaysIn whose made k turn found new.known
 
   -- why nobody was taken out of the group k: another seat held it, or the handler had not ended
-  abbrev pub IsLeftThere : {G : Type 0} → ℕ → Bool → ℕ → SeatView G (Group (Either (Place W) P) Q R T U)
+  abbrev pub IsLeftThere : {G : Type 0} → Whose → ℕ → ℕ → SeatView G (Group (Either (Place W) P) Q R T U)
       → SeatView G (Group (Either (Place W) P) Q R T U) → Type 0
-  IsLeftThere number has_origin k old new = FindsHeld k old new ⊎ LivesOn number has_origin k old new
+  IsLeftThere whose made k old new = FindsHeld k old new ⊎ LivesOn whose made k old new
 
-  -- whoever is in the row for the place k as started goes out of the row, or is left there for a cause
+  -- whoever is in the row for the place k as started goes out of the row or moves on, or is left there for a cause
   abbrev pub IsLookedAt : {G : Type 0} → ℕ → List Connection → List Connection
       → SeatView G (Group (Either (Place W) P) Q R T U) → SeatView G (Group (Either (Place W) P) Q R T U) → Type 0
   IsLookedAt k row row' old new =
-      (number : ℕ) (has_origin : Bool) → get_or row k Free ≡ Accepted number has_origin true
-      → (row' ≡ set row k Free) ⊎ IsLeftThere number has_origin k old new
+      (whose : Whose) (made : ℕ) → get_or row k Free ≡ Accepted whose true made
+      → ComesTo whose_of k whose row row' new.known ⊎ IsLeftThere whose made k old new
 
-module _ {W P Q R T U : Type 0} (number_of : W → ℕ) (holds_origin is_ended : W → Bool) where
+module _ {W P Q R T U : Type 0} (whose_of : W → Whose) (is_ended : W → Bool) where
   -- whoever is in the row for the place k goes out of the row, or its handler lives in this group and has not
   -- ended
   abbrev pub IsCleared : ℕ → Group (Either (Place W) P) Q R T U → List Connection → List Connection → Type 0
   IsCleared k g row row' =
-      (number : ℕ) (has_origin started : Bool) → get_or row k Free ≡ Accepted number has_origin started
-      → (get_or row' k Free ≡ Free) ⊎ HoldsRunning number_of holds_origin is_ended number has_origin g.world
+      (whose : Whose) (started : Bool) (made : ℕ) → get_or row k Free ≡ Accepted whose started made
+      → (get_or row' k Free ≡ Free) ⊎ HoldsRunning whose_of is_ended whose g.world
 
   -- the same of each place and its group, which stand in their order
   abbrev pub AreCleared : List (Group (Either (Place W) P) Q R T U) → List Connection → List Connection → Type 0

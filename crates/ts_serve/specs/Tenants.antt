@@ -1,5 +1,5 @@
 -- What holds of those who live in places, one after the other, and of what is left of them.
-use Rattle.std.specs.Prelude.{◌≡◌, ℕ, ◌+◌, ◌<◌, List, [], Bool, true, false, get_or, is_some}
+use Rattle.std.specs.Prelude.{◌≡◌, ◌⊎◌, ℕ, ◌+◌, ◌<◌, List, [], Bool, true, false, get_or, is_some}
 use mathlib.Core.Option.{some}
 use lib.ListN.{get_elem?}
 use Rattle.ts_journal.specs.Log.{Log}
@@ -24,6 +24,7 @@ use Rattle.ts_serve.specs.declared.connection.Connection.{Connection}
 use Rattle.ts_serve.specs.declared.connection.Connection.TheVariants.{Accepted, Free}
 use Rattle.ts_serve.specs.declared.place.Place.{Place}
 use Rattle.ts_serve.specs.declared.place.Place.TheVariants.{Empty, Tenant}
+use Rattle.ts_serve.specs.declared.whose.Whose.{Whose}
 
 -- the group k is a place of these terms, and so is some group
 abbrev pub IsPlaceOf : {A U : Type 0} → List (EitherTag A U) → ℕ → A → Type 0
@@ -90,35 +91,39 @@ module _ {W T A : Type 0} (Fits : T → W → Type 0) (Keeps : A → T → Type 
     pub ended : is_ended w ≡ true
     pub final : IsFinal journal
 
--- In a place lives a handler of this number, with an origin or without one, which has ended, so that nothing of
--- it is pending.
-pub record HoldsEnded {W P : Type 0} (Sound : W → State → List Named → Type 0) (number_of : W → ℕ)
-    (holds_origin is_ended : W → Bool) (number : ℕ) (has_origin : Bool) (world : Either (Place W) P) :
-    Type 0 where
+  -- It lives in a place of these terms, and has ended there, or waits for its client without end. The journal is
+  -- that of its group.
+  pub record HasStoodIn (is_ended may_wait : W → Bool) (terms : A) (w : W) (journal : Log) : Type 0 where
+    pub fits : PlaceFits Fits Keeps terms (Tenant w)
+    pub roles : List Named
+    pub sound : Sound w journal.state roles
+    pub stood : ((is_ended w ≡ true) × IsFinal journal) ⊎ (may_wait w ≡ true)
+
+-- In a place lives this handler, which has ended, so that nothing of it is pending.
+pub record HoldsEnded {W P : Type 0} (Sound : W → State → List Named → Type 0) (whose_of : W → Whose)
+    (is_ended : W → Bool) (whose : Whose) (world : Either (Place W) P) : Type 0 where
   pub handler : W
   pub lives : world ≡ One (Tenant handler)
   pub ended : is_ended handler ≡ true
   pub rests : (s : State) (roles : List Named) → Sound handler s roles → s.pending ≡ []
-  pub number_is : number_of handler ≡ number
-  pub origin_is : holds_origin handler ≡ has_origin
+  pub whose_is : whose_of handler ≡ whose
 
--- In a place lives the handler of this number, with an origin or without one, which has not ended.
-pub record HoldsRunning {W P : Type 0} (number_of : W → ℕ) (holds_origin is_ended : W → Bool) (number : ℕ)
-    (has_origin : Bool) (world : Either (Place W) P) : Type 0 where
+-- In a place lives this handler, which has not ended.
+pub record HoldsRunning {W P : Type 0} (whose_of : W → Whose) (is_ended : W → Bool) (whose : Whose)
+    (world : Either (Place W) P) : Type 0 where
   pub handler : W
   pub lives : world ≡ One (Tenant handler)
   pub lasts : is_ended handler ≡ false
-  pub number_is : number_of handler ≡ number
-  pub origin_is : holds_origin handler ≡ has_origin
+  pub whose_is : whose_of handler ≡ whose
 
--- The net was handed what is left of the client of this number, with an origin or without one, and of it
--- holds what holds of one that is done.
-pub record HandsOver {C O : Type 0} (tells : Bool) (Done : Retired C O → Type 0) (number : ℕ)
-    (has_origin : Bool) (old new : NetSeen C O) : Type 0 where
+-- The net was handed what is left of this client, with an origin, if one was reached for it, and of it holds
+-- what holds of one that is done.
+pub record HandsOver {C O : Type 0} (tells : Bool) (Done : Retired C O → Type 0) (whose : Whose)
+    (old new : NetSeen C O) : Type 0 where
   pub retired : Retired C O
   pub handed : IsHanded tells retired old new
-  pub number_is : retired.parts.number ≡ number
-  pub origin_is : is_some retired.parts.origin ≡ has_origin
+  pub number_is : retired.parts.number ≡ whose.number
+  pub origin_is : is_some retired.parts.origin ≡ whose.has_origin
   pub done : Done retired
 
 -- what the net was handed has this journal
@@ -137,11 +142,10 @@ pub record HoldsHandler {W P Q R T U : Type 0} (k turn : ℕ) (w : W)
   pub fresh : IsFresh turn group.cx
   pub known_is : KnowsTurn k turn group known
 
--- In the place k a handler was left, which is that of the client that was accepted there: it has its number, and an
--- origin or none.
-pub record StandsAccepted {W P Q R T U : Type 0} (number_of : W → ℕ) (holds_origin : W → Bool)
+-- In the place k a handler was left, which is that of the client that was accepted there.
+pub record StandsAccepted {W P Q R T U : Type 0} (whose_of : W → Whose)
     (known : List (ℕ × ℕ × Group (Either (Place W) P) Q R T U)) (row : List Connection) (k : ℕ) : Type 0 where
   pub turn : ℕ
   pub handler : W
   pub holds : HoldsHandler k turn handler known
-  pub accepted : get_or row k Free ≡ Accepted (number_of handler) (holds_origin handler) false
+  pub accepted : get_or row k Free ≡ Accepted (whose_of handler) false turn

@@ -75,11 +75,13 @@ fn free_place(row: &[Connection]) -> Option<u32>
     None
 }
 
-// Receives whoever is there for the place k, which is free, and keeps account of the answer.
+// Receives whoever is there for the place k, which is free, and keeps account of the answer. The group of its
+// handler is made with so many turns.
 fn receive_at<N: ClientSource, W: Handler<N::Client, N::Origin>>(
     net: &mut N,
     acceptor: &mut Acceptor,
     k: u32,
+    made: u64,
 ) -> Arrival<N::Client, N::Origin>
     requires acceptor { IsAcceptorOf acceptor.old (N.seen net.old) }
     requires open { (acceptor.old.listening ≡ Listening.Open) × (acceptor.old.came < acceptor.old.most) }
@@ -88,12 +90,12 @@ fn receive_at<N: ClientSource, W: Handler<N::Client, N::Origin>>(
     ensures came { CameAs N.Client.Link N.Origin.Link N.Origin.Upstream.own acceptor.new.came result }
     ensures keeps { KeepsAcceptor N.tells W.is_done (λ terms. ⊤)
         acceptor.old acceptor.new (N.seen net.old) (N.seen net.new) }
-    ensures row { (acceptor.new.row.items ≡ row_after k acceptor.new.came result acceptor.old.row.items)
+    ensures row { (acceptor.new.row.items ≡ row_after k acceptor.new.came made result acceptor.old.row.items)
         × (acceptor.new.came ≡ given_after acceptor.old.came result) }
     ensures all { LosesNobody acceptor.old acceptor.new (N.seen net.old) (N.seen net.new) }
 {
     let number = u64::from(acceptor.came) + 1;
-    match receive::<N, W>(net, &mut acceptor.row, k, number) {
+    match receive::<N, W>(net, &mut acceptor.row, k, number, made) {
         Arrival::Came { client, origin } => {
             acceptor.came += 1;
             Arrival::Came { client, origin }
@@ -134,7 +136,7 @@ pub fn accept_one<
         acceptor.old acceptor.new (N.seen net.old) (N.seen net.new) }
     ensures all { LosesNobody acceptor.old acceptor.new (N.seen net.old) (N.seen net.new) }
     ensures stands { IfOk result (λ came. MatchOption came (acceptor.new.came ≡ acceptor.old.came)
-        (StandsAccepted W.number_of W.holds_origin (view seat.new).known acceptor.new.row.items)) }
+        (StandsAccepted W.whose_of (view seat.new).known acceptor.new.row.items)) }
 {
     if acceptor.listening != Listening::Open || acceptor.came >= acceptor.most {
         return Ok(None);
@@ -145,7 +147,8 @@ pub fn accept_one<
     let Some(turn) = enter(slots, seat, k) else {
         return Ok(None);
     };
-    let Arrival::Came { client, origin } = receive_at::<N, W>(net, acceptor, k) else {
+    let Arrival::Came { client, origin } = receive_at::<N, W>(net, acceptor, k, turn.number())
+    else {
         leave_found(slots, seat, turn);
         return Ok(None);
     };

@@ -4,10 +4,12 @@ ghost use Rattle.std.specs.Prelude.{◌≡◌, ◌+◌, ◌<◌, ℕ, true, leng
 ghost use Rattle.ts_serve.specs.declared.connection.Connection.TheVariants as Connection;
 ghost use Rattle.ts_serve.specs.Arrivals.{Receives};
 ghost use Rattle.ts_serve.specs.Balance.{IsBalanced, HasAll, HasNoMore, row_after};
+ghost use Rattle.ts_serve.specs.Whose.{first_of};
 
 use crate::connection::{Connection, add_connection};
 use crate::source::ClientSource;
 use crate::tenant::Handler;
+use crate::whose::Whose;
 use ts_txn::{Accepted, Dialed};
 
 /// Who came.
@@ -22,20 +24,32 @@ pub enum Arrival<C, O> {
     Failed,
 }
 
+// Whose handler it is that a client of this number gets first, with an origin or without one.
+fn first_of(number: u64, has_origin: bool) -> Whose
+    ensures { result ≡ first_of number has_origin }
+{
+    Whose {
+        number,
+        place: 1,
+        has_origin,
+    }
+}
+
 /// Accepts the client of this number, if one is there, dials its origin, and gives it the place k, which is
-/// free.
+/// free. The group of its handler is made with so many turns.
 pub fn receive<N: ClientSource, W: Handler<N::Client, N::Origin>>(
     net: &mut N,
     row: &mut Vec<Connection>,
     k: u32,
     number: u64,
+    made: u64,
 ) -> Arrival<N::Client, N::Origin>
     requires place { k < length row.old.items }
     requires free { get_or row.old.items k Connection.Free ≡ Connection.Free }
     requires number { number ≡ (N.seen net.old).given + 1 }
     ensures receives { Receives N.Client.Link N.Origin.Link N.Origin.Upstream.own
         number result (N.seen net.old) (N.seen net.new) }
-    ensures row { row.new.items ≡ row_after k number result row.old.items }
+    ensures row { row.new.items ≡ row_after k number made result row.old.items }
     ensures balance { N.tells ≡ true → (terms : W.Terms) (misdials : ℕ)
         → IsBalanced (W.is_done terms) misdials row.old.items (N.seen net.old)
         → IsBalanced (W.is_done terms) misdials row.new.items (N.seen net.new) }
@@ -50,14 +64,14 @@ pub fn receive<N: ClientSource, W: Handler<N::Client, N::Origin>>(
     };
     match net.dial() {
         Dialed::Origin(origin) => {
-            add_connection(row, k, number, true);
+            add_connection(row, k, first_of(number, true), made);
             Arrival::Came {
                 client,
                 origin: Some(origin),
             }
         }
         Dialed::Failed => {
-            add_connection(row, k, number, false);
+            add_connection(row, k, first_of(number, false), made);
             Arrival::Came {
                 client,
                 origin: None,

@@ -34,24 +34,19 @@ pub fn clear_place<
     ensures no_more { HasNoMore row.old.items (N.seen net.old) → HasNoMore row.new.items (N.seen net.new) }
     ensures net { IsNotAsked (N.seen net.old) (N.seen net.new) }
     ensures others { OthersStay k row.old.items row.new.items }
-    ensures cleared { OnOk result (IsCleared W.number_of W.holds_origin W.is_ended k group
+    ensures cleared { OnOk result (IsCleared W.whose_of W.is_ended k group
         row.old.items row.new.items) }
     ensures all { OnOk result (HasAll row.old.items (N.seen net.old) → HasAll row.new.items (N.seen net.new)) }
 {
-    let Connection::Accepted {
-        number,
-        has_origin,
-        ..
-    } = row[k as usize]
-    else {
+    let Connection::Accepted { whose, made, .. } = row[k as usize] else {
         return Ok(());
     };
-    if has_ended(&group, number, has_origin) {
-        hand_over(net, number, has_origin, group)?;
+    if has_ended(&group, whose, made) {
+        hand_over(net, whose, group)?;
         row[k as usize] = Connection::Free;
         return Ok(());
     }
-    if !is_running(&group, number, has_origin) {
+    if !is_running(&group, whose) {
         return Err(NoMemory);
     }
     Ok(())
@@ -72,7 +67,7 @@ pub fn clear_places<
         row.old.items (N.seen net.old) row.new.items (N.seen net.new) }
     ensures no_more { HasNoMore row.old.items (N.seen net.old) → HasNoMore row.new.items (N.seen net.new) }
     ensures net { IsNotAsked (N.seen net.old) (N.seen net.new) }
-    ensures cleared { OnOk result (AreCleared W.number_of W.holds_origin W.is_ended groups.items
+    ensures cleared { OnOk result (AreCleared W.whose_of W.is_ended groups.items
         row.old.items row.new.items) }
     ensures all { OnOk result (HasAll row.old.items (N.seen net.old) → HasAll row.new.items (N.seen net.new)) }
 {

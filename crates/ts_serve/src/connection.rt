@@ -5,29 +5,31 @@ ghost use Rattle.ts_serve.specs.declared.connection.Connection.TheVariants as co
 ghost use Rattle.ts_serve.specs.Balance.{IsSameRow};
 ghost use Rattle.ts_serve.specs.Starting.{OthersStay, is_waiting};
 
+use crate::whose::Whose;
+
 /// What the acceptor keeps of a place: that it is free, or the client that was accepted into it.
 #[derive(Clone, Copy, Debug, PartialEq, Eq, Drop)]
 pub enum Connection {
     Free,
     Accepted {
-        /// Its number among all that came, counted from 1.
-        number: u64,
-        /// An origin was reached for it.
-        has_origin: bool,
+        whose: Whose,
         /// Its handler was started.
         started: bool,
+        /// With how many turns the group of its handler was made.
+        made: u64,
     },
 }
 
-/// Gives the place k to a client of this number, with an origin or without one. Its handler was not started.
-pub fn add_connection(row: &mut Vec<Connection>, k: u32, number: u64, has_origin: bool)
+/// Gives the place k to a client, whose handler is in a group that was made with so many turns, and was not
+/// started.
+pub fn add_connection(row: &mut Vec<Connection>, k: u32, whose: Whose, made: u64)
     requires { k < length row.old.items }
-    ensures { row.new.items ≡ set row.old.items k (connection.Accepted number has_origin false) }
+    ensures { row.new.items ≡ set row.old.items k (connection.Accepted whose false made) }
 {
     row[k as usize] = Connection::Accepted {
-        number,
-        has_origin,
+        whose,
         started: false,
+        made,
     };
 }
 
@@ -38,16 +40,11 @@ pub fn mark_started(row: &mut Vec<Connection>, k: u32)
     ensures others { OthersStay k row.old.items row.new.items }
     ensures marked { is_waiting (get_or row.new.items k connection.Free) ≡ 0 }
 {
-    if let Connection::Accepted {
-        number,
-        has_origin,
-        ..
-    } = row[k as usize]
-    {
+    if let Connection::Accepted { whose, made, .. } = row[k as usize] {
         row[k as usize] = Connection::Accepted {
-            number,
-            has_origin,
+            whose,
             started: true,
+            made,
         };
     }
 }

@@ -1,29 +1,33 @@
 //! A net that is served by transactions of one setup, which have its layers over their ends, with the plugins
 //! of its lines beside them.
 
-ghost use Rattle.std.specs.Prelude.{◌≡◌, ◌<◌, ◌≤◌, is_some, true, IfOk};
+ghost use Rattle.std.specs.Prelude.{⊤, ◌≡◌, ◌<◌, ◌≤◌, List, is_some, false, true, IfOk, IfSome};
 ghost use Rattle.std.specs.Arc.{arc_value};
-ghost use Rattle.ts_exchange.specs.Left.{has_ended, number_of};
+ghost use Rattle.ts_exchange.specs.Left.{has_ended};
 ghost use Rattle.ts_history.specs.Done.{IsTxnDone};
-ghost use Rattle.ts_layers.specs.Layers.{holds_origin};
 ghost use Rattle.ts_layers.specs.Links.{client_link, origin_link, origin_uploads};
 ghost use Rattle.ts_passing.specs.Lines.{ActsAsLines};
 ghost use Rattle.ts_thread.specs.declared.TheConstants.{MOST_THREADS};
 ghost use Rattle.ts_txn.specs.Making.{IsTxnSetup};
-ghost use Rattle.ts_txn.specs.Net.{IsFreshNet};
+ghost use Rattle.ts_txn.specs.Net.{IsFreshNet, IsNextOrigin};
 ghost use Rattle.ts_txn.specs.World.{IsSoundTxn, IsTxnOf};
+ghost use Rattle.ts_txn.specs.declared.retired.Noted.{Noted};
 ghost use Rattle.ts_serve.specs.declared.acceptor.TheConstants.{PLACES};
 ghost use Rattle.ts_serve.specs.declared.exchanges.TxnTerms.{TxnTerms};
 ghost use Rattle.ts_serve.specs.Arrivals.{IsArrival};
-ghost use Rattle.ts_serve.specs.Exchanges.{AreTerms, KeepsTerms};
+ghost use Rattle.ts_serve.specs.Exchanges.{AreTerms, ComesAfter, KeepsTerms, whose_of};
+ghost use Rattle.ts_serve.specs.Places.{FitsAtPlace};
 ghost use Rattle.ts_serve.specs.Served.{AreRetired, IsServed};
 ghost use Rattle.ts_serve.specs.Tenants.{MayLive};
+ghost use Rattle.ts_serve.specs.Whose.{first_of, next_of};
 
 use crate::acceptor::{PLACES, Served};
+use crate::leaving::Leaving;
 use crate::placed::PlacedExchange;
 use crate::run::serve;
 use crate::service::Host;
 use crate::tenant::{Handler, Tenant};
+use crate::whose::Whose;
 use std::alloc::Global;
 use std::snapshot::Snapshot;
 use std::sync::{Arc, Wait};
@@ -47,6 +51,13 @@ pub struct TxnTerms {
     pub plugins_at: u32,
 }
 
+/// A client that comes with its number.
+#[derive(Drop)]
+pub struct Comer<C> {
+    pub number: u64,
+    pub client: C,
+}
+
 // A place promises nothing of the links of a transaction, and others stood in it before.
 const PROMISE: Promise = Promise {
     is_sure: false,
@@ -61,7 +72,7 @@ impl<C: Sourced + Drop, O: Upstream<C> + Drop, P: Transform<Line = TransformLine
     for PlacedExchange<C, O, P> {
     type Terms = TxnTerms;
 
-    ghost keeps = { KeepsTerms C.look };
+    ghost keeps = { λ terms tag. KeepsTerms C.look terms tag.value };
 
     // Whoever asks an empty place may continue, with the fields as they are.
     fn reply_empty(question: HookQuestion) -> HookReply {
@@ -83,19 +94,32 @@ impl<C: Sourced + Drop, O: Upstream<C> + Drop, P: Transform<Line = TransformLine
 > for PlacedExchange<C, O, P> {
     type Setting = ExchangeSetting;
 
+    // No client of such a server goes on. What would be made of one is what is made of one that came.
+    type Next = Comer<C>;
+
     ghost are_terms = { AreTerms };
 
     ghost is_setting = { λ setting.
         IsTxnSetup (arc_value setting.setup) setting.plugins_at × ActsAsLines P.Transform };
 
-    ghost number_of = { λ t. number_of t };
+    ghost behind = { λ terms notes. terms };
 
-    ghost holds_origin = { λ t. holds_origin t };
+    ghost whose_of = { λ t. whose_of t };
 
-    ghost is_ended = { λ t. has_ended t };
+    ghost is_ended = { λ t. has_ended t.value };
+
+    ghost is_lacking = { λ t. false };
+
+    ghost may_wait = { λ t. false };
 
     ghost is_done = { λ terms.
         IsTxnDone C.Link O.Link O.Upstream.own P.Transform terms.setup.value terms.plugins_at };
+
+    ghost is_spent = { λ terms r. ⊤ };
+
+    ghost is_note = { λ terms noted. ⊥ };
+
+    ghost is_next = { λ terms noted next. ComesAfter C.Link O.Link O.Upstream.own noted next };
 
     // There is one value of the terms, since they show the setup and a number.
     fn terms(setting: &ExchangeSetting) -> TxnTerms
@@ -118,30 +142,81 @@ impl<C: Sourced + Drop, O: Upstream<C> + Drop, P: Transform<Line = TransformLine
         requires setting { IsTxnSetup (arc_value setting.now.setup) setting.now.plugins_at
             × ActsAsLines P.Transform }
         requires arrival { IsArrival C.Link O.Link O.Upstream.own number client origin }
-        ensures number { IfOk result (λ exchange. number_of exchange ≡ number) }
-        ensures origin { IfOk result (λ exchange. holds_origin exchange ≡ is_some origin) }
+        ensures whose { IfOk result (λ exchange. whose_of exchange ≡ first_of number (is_some origin)) }
         ensures lives { IfOk result (λ exchange. (terms : TxnTerms) → AreTerms setting.now terms
-            → MayLive (IsTxnOf (client_link C.Link) (origin_link O.Link)) (KeepsTerms C.look)
+            → MayLive (FitsAtPlace (IsTxnOf (client_link C.Link) (origin_link O.Link)))
+            (λ terms tag. KeepsTerms C.look terms tag.value)
             (λ t s roles. IsSoundTxn (client_link C.Link) (origin_link O.Link)
-            (origin_uploads C.Link O.Link O.Upstream.own P.Transform) P.Transform t s.pending s.next roles)
+            (origin_uploads C.Link O.Link O.Upstream.own P.Transform) P.Transform t.value s.pending s.next roles)
+            terms exchange) }
+        ensures first { IfOk result (λ exchange. (terms : TxnTerms) → AreTerms setting.now terms
+            → MayLive (FitsAtPlace (IsTxnOf (client_link C.Link) (origin_link O.Link)))
+            (λ terms tag. KeepsTerms C.look terms tag.value)
+            (λ t s roles. IsSoundTxn (client_link C.Link) (origin_link O.Link)
+            (origin_uploads C.Link O.Link O.Upstream.own P.Transform) P.Transform t.value s.pending s.next roles)
             terms exchange) }
     {
         let (exchange, _tag) = make_layered(
             alloc, setting, number, PROMISE, KEEPS, client, origin,
         )?;
-        Ok(PlacedExchange { exchange })
+        Ok(PlacedExchange { exchange, place: 1 })
     }
 
-    fn number(&self) -> u64 {
-        self.exchange.number()
+    fn make_next(
+        alloc: Global,
+        setting: &ExchangeSetting,
+        next: Comer<C>,
+        origin: Option<O>,
+    ) -> Result<PlacedExchange<C, O, P>, NoMemory>
+        requires setting { IsTxnSetup (arc_value setting.now.setup) setting.now.plugins_at
+            × ActsAsLines P.Transform }
+        requires next { (terms : TxnTerms) × (noted : Noted O) × AreTerms setting.now terms
+            × ComesAfter C.Link O.Link O.Upstream.own noted next }
+        requires origin { IfSome origin (IsNextOrigin O.Link O.Upstream.own) }
+        ensures whose { IfOk result (λ exchange. (terms : TxnTerms) (noted : Noted O)
+            → ComesAfter C.Link O.Link O.Upstream.own noted next
+            → whose_of exchange ≡ next_of noted (is_some origin)) }
+        ensures lives { IfOk result (λ exchange. (terms : TxnTerms) (noted : Noted O)
+            → AreTerms setting.now terms → ComesAfter C.Link O.Link O.Upstream.own noted next
+            → MayLive (FitsAtPlace (IsTxnOf (client_link C.Link) (origin_link O.Link)))
+            (λ terms tag. KeepsTerms C.look terms tag.value)
+            (λ t s roles. IsSoundTxn (client_link C.Link) (origin_link O.Link)
+            (origin_uploads C.Link O.Link O.Upstream.own P.Transform) P.Transform t.value s.pending s.next roles)
+            terms exchange) }
+        ensures behind { IfOk result (λ exchange. (terms : TxnTerms) (notes : List (Noted O)) (noted : Noted O)
+            → AreTerms setting.now terms → ComesAfter C.Link O.Link O.Upstream.own noted next
+            → MayLive (FitsAtPlace (IsTxnOf (client_link C.Link) (origin_link O.Link)))
+            (λ terms tag. KeepsTerms C.look terms tag.value)
+            (λ t s roles. IsSoundTxn (client_link C.Link) (origin_link O.Link)
+            (origin_uploads C.Link O.Link O.Upstream.own P.Transform) P.Transform t.value s.pending s.next roles)
+            terms exchange) }
+    {
+        let Comer { number, client } = next;
+        <PlacedExchange<C, O, P> as Handler<C, O>>::make(alloc, setting, number, client, origin)
     }
 
-    fn has_origin(&self) -> bool {
-        has_origin(&self.exchange)
+    fn whose(&self) -> Whose {
+        Whose {
+            number: self.exchange.number(),
+            place: self.place,
+            has_origin: has_origin(&self.exchange),
+        }
     }
 
     fn has_ended(&self) -> bool {
         has_ended(&self.exchange)
+    }
+
+    fn lacks_memory(&self) -> bool {
+        false
+    }
+
+    fn may_wait(&self) -> bool {
+        false
+    }
+
+    fn leave(self, journal: Journal) -> Leaving<C, O, PlacedExchange<C, O, P>, Comer<C>> {
+        Leaving::Retires(<PlacedExchange<C, O, P> as Handler<C, O>>::retire(self, journal))
     }
 
     fn retire(self, journal: Journal) -> Retired<C, O> {

@@ -12,6 +12,7 @@ ghost use Rattle.ts_txn.specs.Asking.{AwaitsTxn, HearsTxn, IsRightFor, MayAskGro
 ghost use Rattle.ts_txn.specs.Driven.{TakesEvent};
 ghost use Rattle.ts_txn.specs.LoweringCourse.{transaction_left};
 ghost use Rattle.ts_txn.specs.World.{HasTxnBegun, IsSoundTxn, IsTxnOf, LetsContinue};
+ghost use Rattle.ts_serve.specs.Places.{FitsAtPlace};
 
 use std::marker::Model;
 use ts_config::TransformLine;
@@ -23,28 +24,39 @@ use ts_plugin::{HookQuestion, HookReply};
 use ts_transform::Transform;
 use ts_upstream::Upstream;
 
+/// What is there at a place among the transactions of a client.
+#[derive(Drop)]
+pub struct AtPlace<T> {
+    pub value: T,
+    /// Counted from 1.
+    pub place: u32,
+}
+
 /// A transaction with its layers, as it stands in a place.
 #[derive(Drop)]
 pub struct PlacedExchange<C: Link, O: Link, P> {
     pub(crate) exchange: LayeredExchange<C, O, P>,
+    /// The place of the transaction among those of its client, counted from 1.
+    pub(crate) place: u32,
 }
 
 impl<C: Link, O: Link, P> Model for PlacedExchange<C, O, P> {
     ghost use Rattle.ts_layers.specs.Links.{ClientEnd, OriginEnd};
+    ghost use Rattle.ts_serve.specs.declared.placed.AtPlace.{AtPlace};
     ghost use Rattle.ts_txn.specs.declared.txn.Txn.{Txn};
 
-    ghost Value = { Txn (ClientEnd C) (OriginEnd O P) P };
+    ghost Value = { AtPlace (Txn (ClientEnd C) (OriginEnd O P) P) };
 
-    ghost view = { λ e. e.exchange };
+    ghost view = { λ e. record { value = e.exchange; place = e.place } };
 }
 
 impl<C: Sourced + Drop, O: Upstream<C> + Drop, P: Transform<Line = TransformLine> + Drop> Slotted
     for PlacedExchange<C, O, P> {
-    type Tag = LayeredTag<C, O, P>;
+    type Tag = AtPlace<LayeredTag<C, O, P>>;
 
     type Trace = ();
 
-    ghost fits = { λ tag t. IsTxnOf (client_link C.Link) (origin_link O.Link) tag t };
+    ghost fits = { FitsAtPlace (IsTxnOf (client_link C.Link) (origin_link O.Link)) };
 
     ghost stamp = { λ t. 0 };
 
@@ -136,7 +148,7 @@ fn rouse_world<W: Rouse>(world: &mut W, cx: &mut Cx)
     world.rouse(cx)
 }
 
-/// It is the transaction in it.
+/// It is the transaction in it. Its place stays.
 impl<C: Sourced + Drop, O: Upstream<C> + Drop, P: Transform<Line = TransformLine> + Drop> World
     for PlacedExchange<C, O, P> {
     type Question = HookQuestion;
@@ -144,31 +156,32 @@ impl<C: Sourced + Drop, O: Upstream<C> + Drop, P: Transform<Line = TransformLine
     type Reply = HookReply;
 
     ghost sound = { λ t s roles. IsSoundTxn (client_link C.Link) (origin_link O.Link)
-        (origin_uploads C.Link O.Link O.Upstream.own P.Transform) P.Transform t s.pending s.next roles };
+        (origin_uploads C.Link O.Link O.Upstream.own P.Transform) P.Transform t.value s.pending s.next roles };
 
     ghost asking = { λ t s roles role group question. AwaitsTxn (client_link C.Link) (origin_link O.Link)
-        (origin_uploads C.Link O.Link O.Upstream.own P.Transform) P.Transform t s.pending s.next roles group
+        (origin_uploads C.Link O.Link O.Upstream.own P.Transform) P.Transform t.value s.pending s.next roles group
         question };
 
-    ghost right = { IsRightFor };
+    ghost right = { λ t. IsRightFor t.value };
 
-    ghost may_ask = { MayAskGroup };
+    ghost may_ask = { λ t. MayAskGroup t.value };
 
     ghost answers = { λ t question reply. LetsContinue question reply };
 
     ghost left = { λ t s. transaction_left (client_link C.Link) (origin_link O.Link)
-        (origin_uploads C.Link O.Link O.Upstream.own P.Transform) P.Transform t.core t.course s.pending };
+        (origin_uploads C.Link O.Link O.Upstream.own P.Transform) P.Transform t.value.core t.value.course s.pending };
 
     ghost only_asked = { λ tag. false };
 
-    ghost is_first = { λ tag. tag.first };
+    ghost is_first = { λ tag. tag.value.first };
 
-    ghost begun = { λ old new. HasTxnBegun old new };
+    ghost begun = { λ old new. HasTxnBegun old.value new.value };
 
     ghost called = { λ old new asked. TakesEvent (client_link C.Link) (origin_link O.Link)
-        (origin_uploads C.Link O.Link O.Upstream.own P.Transform) old.core new.core old.course new.course };
+        (origin_uploads C.Link O.Link O.Upstream.own P.Transform) old.value.core new.value.core old.value.course
+        new.value.course };
 
-    ghost heard = { HearsTxn };
+    ghost heard = { λ old new. HearsTxn old.value new.value };
 
     fn start(&mut self, cx: &mut Cx) {
         start_world(&mut self.exchange, cx)
@@ -184,19 +197,20 @@ impl<C: Sourced + Drop, O: Upstream<C> + Drop, P: Transform<Line = TransformLine
         requires asking { IsAnswered
             (AwaitsTxn (client_link C.Link) (origin_link O.Link)
             (origin_uploads C.Link O.Link O.Upstream.own P.Transform) P.Transform
-            self.old cx.old.log.state.pending cx.old.log.state.next cx.old.roles)
-            (IsRightFor self.old) asked }
+            self.old.value cx.old.log.state.pending cx.old.log.state.next cx.old.roles)
+            (IsRightFor self.old.value) asked }
         ensures grows { Grows cx.old cx.new }
         ensures sound { IsSoundTxn (client_link C.Link) (origin_link O.Link)
             (origin_uploads C.Link O.Link O.Upstream.own P.Transform) P.Transform
-            self.new cx.new.log.state.pending cx.new.log.state.next cx.new.roles }
-        ensures hears { Hears HearsTxn
+            self.new.value cx.new.log.state.pending cx.new.log.state.next cx.new.roles }
+        ensures hears { Hears (λ old new. HearsTxn old.value new.value)
             (λ t s. transaction_left (client_link C.Link) (origin_link O.Link)
-            (origin_uploads C.Link O.Link O.Upstream.own P.Transform) P.Transform t.core t.course s.pending)
+            (origin_uploads C.Link O.Link O.Upstream.own P.Transform) P.Transform t.value.core t.value.course
+            s.pending)
             self.old self.new cx.old.log.state cx.new.log.state asked }
-        ensures promises { KeepsPromises (IsTxnOf (client_link C.Link) (origin_link O.Link)) IsRightFor
-            MayAskGroup self.old self.new }
-        ensures few { SetsAtMost (IsTxnOf (client_link C.Link) (origin_link O.Link))
+        ensures promises { KeepsPromises (FitsAtPlace (IsTxnOf (client_link C.Link) (origin_link O.Link)))
+            (λ t. IsRightFor t.value) (λ t. MayAskGroup t.value) self.old self.new }
+        ensures few { SetsAtMost (FitsAtPlace (IsTxnOf (client_link C.Link) (origin_link O.Link)))
             self.old MOST_SET cx.old cx.new }
     {
         tell_world(&mut self.exchange, role, asked, cx)

@@ -63,11 +63,7 @@ fn serves_client(connection: Connection, number: u64) -> bool
 {
     match connection {
         Connection::Free => false,
-        Connection::Accepted {
-            number: here,
-            started,
-            ..
-        } => started && here == number,
+        Connection::Accepted { whose, started, .. } => started && whose.number == number,
     }
 }
 

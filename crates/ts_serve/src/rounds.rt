@@ -1,5 +1,5 @@
-//! The first thread: it accepts clients, starts their handlers, takes out those that have ended, and takes turns
-//! as the other threads do.
+//! The first thread: it accepts clients, starts their handlers, goes on with the clients of those that have ended,
+//! and takes turns as the other threads do.
 
 ghost use Rattle.std.specs.Prelude.{◌≡◌, true, OnOk};
 ghost use Rattle.std.specs.List.{sum_by};
@@ -14,10 +14,10 @@ use crate::acceptor::{Acceptor, Listening};
 use crate::connection::Connection;
 use crate::place::PlaceGroup;
 use crate::ready::{LONGEST_PAUSE, Ready, ask_ready, rouse_ready};
-use crate::retire::{retire_all, retire_next};
 use crate::service::Service;
 use crate::source::ClientSource;
 use crate::start::start_handlers;
+use crate::steps::{step_all, step_next};
 use crate::tenant::Handler;
 use crate::worker::PAUSE;
 use std::sync::Wait;
@@ -74,7 +74,7 @@ fn tend<
     let slots = service.shared.slots;
     let came = accept_all(service.alloc, setting, net, slots, &mut desk.seat, acceptor)?;
     start_handlers(&service.shared, desk, &mut acceptor.row, moment)?;
-    retire_next(service.alloc, net, slots, &mut desk.seat, acceptor)?;
+    step_next(service.alloc, setting, net, slots, &mut desk.seat, acceptor)?;
     Ok(came)
 }
 
@@ -107,8 +107,9 @@ fn take_round<
     let Did::Idle = turn_desk(&service.shared, FIRST, desk, moment)? else {
         return Ok(false);
     };
-    retire_all(
+    step_all(
         service.alloc,
+        setting,
         net,
         service.shared.slots,
         &mut desk.seat,

@@ -194,7 +194,7 @@ where
         row.old.items (N.seen net.old) row.new.items (N.seen net.new) }
     ensures no_more { HasNoMore row.old.items (N.seen net.old) → HasNoMore row.new.items (N.seen net.new) }
     ensures net { IsNotAsked (N.seen net.old) (N.seen net.new) }
-    ensures closed { IfOk result (λ found. IsClosedOver W.number_of W.holds_origin W.is_ended
+    ensures closed { IfOk result (λ found. IsClosedOver W.whose_of W.is_ended
         (tags_of server.slots) found.value.items row.old.items row.new.items) }
 {
     let Server {

@@ -2,10 +2,10 @@
 
 ghost use Rattle.std.specs.Prelude.{◌≡◌, Bool, OnOk, OnErr};
 ghost use Rattle.ts_txn.specs.Net.{AddsNames, CountsRise, GivesClient, GivesNobody, GivesOrigin, IsHanded};
-ghost use Rattle.ts_txn.specs.Net.{IsHandedNothing, NetSeen, raised_by_accept, raised_by_dial};
+ghost use Rattle.ts_txn.specs.Net.{IsHandedNothing, IsNoted, NetSeen, raised_by_accept, raised_by_dial};
 
 use ts_link::{Link, NoMemory};
-use ts_txn::{Accepted, Dialed, Net, Retired};
+use ts_txn::{Accepted, Dialed, Net, Noted, Retired};
 use ts_upstream::Upstream;
 
 /// A net that has begun to listen, as the first thread sees it. That thread alone takes clients from it and
@@ -34,7 +34,7 @@ pub trait ClientSource {
         ensures handed { IsHandedNothing (seen self.old) (seen self.new) }
         ensures counts { CountsRise (raised_by_accept result) (seen self.old) (seen self.new) };
 
-    /// The origin of the client that came last. It belongs to any client, and refuses no upload.
+    /// The origin of the client that came last, or goes on. It belongs to any client, and refuses no upload.
     fn dial(&mut self) -> Dialed<Self::Origin>
         ensures origin { GivesOrigin Self.Origin.Link Self.Origin.Upstream.own result }
         ensures nobody { GivesNobody (seen self.old) (seen self.new) }
@@ -43,6 +43,12 @@ pub trait ClientSource {
     /// Takes what is left of a transaction, and counts it. At want of memory it is dropped.
     fn retire(&mut self, retired: Retired<Self::Client, Self::Origin>) -> Result<(), NoMemory>
         ensures ok { OnOk result (IsHanded tells retired (seen self.old) (seen self.new)) }
+        ensures err { OnErr result (seen self.new ≡ seen self.old) };
+
+    /// Takes what is left of a transaction after which its client goes on, and counts it. At want of memory it
+    /// is dropped.
+    fn note(&mut self, noted: Noted<Self::Origin>) -> Result<(), NoMemory>
+        ensures ok { OnOk result (IsNoted tells noted (seen self.old) (seen self.new)) }
         ensures err { OnErr result (seen self.new ≡ seen self.old) };
 }
 
@@ -72,5 +78,12 @@ impl<N: Net> ClientSource for N {
         ensures err { OnErr result (N.seen self.new ≡ N.seen self.old) }
     {
         <N as Net>::retire(self, retired)
+    }
+
+    fn note(&mut self, noted: Noted<N::Origin>) -> Result<(), NoMemory>
+        ensures ok { OnOk result (IsNoted N.tells noted (N.seen self.old) (N.seen self.new)) }
+        ensures err { OnErr result (N.seen self.new ≡ N.seen self.old) }
+    {
+        <N as Net>::note(self, noted)
     }
 }

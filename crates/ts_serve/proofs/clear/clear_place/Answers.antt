@@ -13,10 +13,10 @@ returns-then-has_ended-clause-balance g c = λ tells terms fits misdials balance
     let connected = c.in-Accepted in
     let old = g.N.ClientSource.seen c.args.net.now in
     let new = g.N.ClientSource.seen c.hand_over.new.net in
-    let found : get_or row c.args.k Free ≡ Accepted connected.number connected.has_origin connected.started =
+    let found : get_or row c.args.k Free ≡ Accepted connected.whose connected.started connected.made =
     sym (get_or_read row c.args.k c.index.result.now c.requires.place c.index.ensures Free) ∙ connected.is in
     let over = c.in_ok-hand_over.ensures.ok terms fits in
-    balance_out (g.W.Handler.is_done terms) misdials row c.args.k connected.number connected.has_origin connected.started
+    balance_out (g.W.Handler.is_done terms) misdials row c.args.k connected.whose connected.started connected.made
     over.retired old new c.requires.place found
     (subst (λ told. IsHanded told over.retired old new) tells over.handed) over.number_is over.origin_is
     over.done balance
@@ -25,23 +25,23 @@ pub returns-then-has_ended-clause-no_more : goal.returns-then-has_ended-clause-n
 returns-then-has_ended-clause-no_more g c =
     let row = c.args.row.now.items in
     let connected = c.in-Accepted in
-    let found : get_or row c.args.k Free ≡ Accepted connected.number connected.has_origin connected.started =
+    let found : get_or row c.args.k Free ≡ Accepted connected.whose connected.started connected.made =
     sym (get_or_read row c.args.k c.index.result.now c.requires.place c.index.ensures Free) ∙ connected.is in
-    no_more_out row c.args.k connected.number connected.has_origin connected.started (g.N.ClientSource.seen c.args.net.now)
+    no_more_out row c.args.k connected.whose connected.started connected.made (g.N.ClientSource.seen c.args.net.now)
     (g.N.ClientSource.seen c.hand_over.new.net) c.requires.place found c.in_ok-hand_over.ensures.more
     c.hand_over.ensures.net.given
 
 pub returns-then-has_ended-clause-cleared : goal.returns-then-has_ended-clause-cleared
 returns-then-has_ended-clause-cleared g c =
-    goes_out g.W.Handler.number_of g.W.Handler.holds_origin g.W.Handler.is_ended c.args.k c.args.group
+    goes_out g.W.Handler.whose_of g.W.Handler.is_ended c.args.k c.args.group
     c.args.row.now.items _ (get_or-set_same c.args.row.now.items c.args.k Free Free c.requires.place)
 
 pub returns-clause-cleared : goal.returns-clause-cleared
 returns-clause-cleared g c =
     let row = c.args.row.now.items in
     let connected = c.in-Accepted in
-    let found : get_or row c.args.k Free ≡ Accepted connected.number connected.has_origin connected.started =
+    let found : get_or row c.args.k Free ≡ Accepted connected.whose connected.started connected.made =
     sym (get_or_read row c.args.k c.index.result.now c.requires.place c.index.ensures Free) ∙ connected.is in
-    runs_on g.W.Handler.number_of g.W.Handler.holds_origin g.W.Handler.is_ended c.args.k c.args.group row row
-    connected.number connected.has_origin connected.started found
+    runs_on g.W.Handler.whose_of g.W.Handler.is_ended c.args.k c.args.group row row
+    connected.whose connected.started connected.made found
     (c.is_running.ensures.0 c.if-not-is_running.false)

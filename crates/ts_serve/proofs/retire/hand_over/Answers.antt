@@ -1,18 +1,23 @@
 -- What is left of a handler is handed over with the journal of its group.
-use Rattle.std.proofs.Common.{ap, sym, ◌∙◌}
+use Rattle.std.proofs.Common.{ap, sym, subst, ◌≡◌, ◌∙◌, false}
 use Rattle.std.proofs.lemmas.Result.{on_ok_weaker}
 use Rattle.ts_group.specs.declared.either.Either.TheVariants.{One}
 use Rattle.ts_journal.proofs.Final.{is_kept}
-use Rattle.ts_serve.proofs.Tenants.{ended_in, one_handler}
+use Rattle.ts_serve.specs.declared.whose.Whose.{Whose}
+use Rattle.ts_serve.proofs.Tenants.{ended_in, one_handler, stood_in}
 use Rattle.ts_serve.proofs.retire.hand_over.Goals as goal
 
 pub returns-clause-journal : goal.returns-clause-journal
 returns-clause-journal g c =
+    let world = sym c.into_parts-world.ensures.0 ∙ c.in-One-Tenant.is ∙ ap One c.in-One-Tenant.field-0-is in
     on_ok_weaker c.retire-2.result
-    (λ handed. record {
+    (λ handed handler lives lasts.
+    let same = one_handler handler c.in-One-Tenant.handler (sym lives ∙ world) in
+    record {
       retired = c.retire.result;
       handed = handed;
-      journal_is = c.retire.ensures.journal ∙ c.into_parts-world.ensures.1;
+      journal_is = c.retire.ensures.journal (subst (λ w. g.W.Handler.may_wait w ≡ false) same lasts)
+          ∙ c.into_parts-world.ensures.1;
     })
     c.retire-2.ensures.ok
 
@@ -22,6 +27,7 @@ returns-clause-ok g c =
     let over = c.requires.over in
     let world = sym c.into_parts-world.ensures.0 ∙ c.in-One-Tenant.is ∙ ap One c.in-One-Tenant.field-0-is in
     let handler = one_handler over.handler c.in-One-Tenant.handler (sym over.lives ∙ world) in
+    let whose = ap g.W.Handler.whose_of (sym handler) ∙ over.whose_is in
     let kept = is_kept group.cx.log c.journal-journal.result.now c.entries.result.now
     c.journal-journal.ensures c.entries.ensures.entries c.entries.ensures.lawful c.entries.ensures.state
     c.known-2.ensures.lived_base c.known-2.ensures.lived
@@ -30,13 +36,14 @@ returns-clause-ok g c =
     (λ handed terms fits. record {
       retired = c.retire.result;
       handed = handed;
-      number_is = c.retire.ensures.number ∙ ap g.W.Handler.number_of (sym handler) ∙ over.number_is;
-      origin_is = c.retire.ensures.origin ∙ ap g.W.Handler.holds_origin (sym handler) ∙ over.origin_is;
+      number_is = c.retire.ensures.number ∙ ap (λ (v : Whose). v.number) whose;
+      origin_is = c.retire.ensures.origin ∙ ap (λ (v : Whose). v.has_origin) whose;
       done = c.retire.ensures.done terms
+          (stood_in g.W.Slotted.fits g.W.Tenant.keeps g.W.World.sound g.W.Handler.is_ended
+          g.W.Handler.may_wait terms c.in-One-Tenant.handler c.into_parts-world.result.1
           (ended_in g.W.Slotted.fits g.W.Tenant.keeps g.W.World.sound g.P.Slotted.fits g.P.World.sound
-          g.P.World.only_asked g.P.World.is_first g.W.Handler.number_of g.W.Handler.holds_origin
-          g.W.Handler.is_ended c.args.number c.args.has_origin terms group c.in-One-Tenant.handler
-          c.into_parts-world.result.1
-          over world c.into_parts-world.ensures.1 kept fits);
+          g.P.World.only_asked g.P.World.is_first g.W.Handler.whose_of g.W.Handler.is_ended c.args.whose terms
+          group c.in-One-Tenant.handler c.into_parts-world.result.1
+          over world c.into_parts-world.ensures.1 kept fits));
     })
     c.retire-2.ensures.ok

@@ -35,48 +35,48 @@ returns-in_default g c = record {
   all = λ had. c.in_ok-came.ensures.all had;
 }
 
-pub returns-in_err-retire_all : goal.returns-in_err-retire_all
-returns-in_err-retire_all g c = record {
+pub returns-in_err-step_all : goal.returns-in_err-step_all
+returns-in_err-step_all g c = record {
   at_desk = record {
-    seat = c.retire_all.ensures.seat.0;
+    seat = c.step_all.ensures.seat.0;
     pass = c.turn_desk.ensures.desk.pass;
     wheel = c.turn_desk.ensures.desk.wheel;
   };
-  at_acceptor = c.retire_all.ensures.acceptor;
+  at_acceptor = c.step_all.ensures.acceptor;
   goes = goes_further c.args.desk.now c.turn_desk.new.desk
-      (record c.turn_desk.new.desk { seat = c.retire_all.new.seat }) c.args.acceptor.now c.tend.new.acceptor
-      c.retire_all.new.acceptor (g.N.ClientSource.seen c.args.net.now) (g.N.ClientSource.seen c.tend.new.net)
-      (g.N.ClientSource.seen c.retire_all.new.net)
+      (record c.turn_desk.new.desk { seat = c.step_all.new.seat }) c.args.acceptor.now c.tend.new.acceptor
+      c.step_all.new.acceptor (g.N.ClientSource.seen c.args.net.now) (g.N.ClientSource.seen c.tend.new.net)
+      (g.N.ClientSource.seen c.step_all.new.net)
       (goes_further c.args.desk.now c.tend.new.desk c.turn_desk.new.desk c.args.acceptor.now
       c.tend.new.acceptor c.tend.new.acceptor (g.N.ClientSource.seen c.args.net.now) (g.N.ClientSource.seen c.tend.new.net)
       (g.N.ClientSource.seen c.tend.new.net) c.tend.ensures.goes
       (goes_at_desk c.tend.new.desk c.turn_desk.new.desk c.tend.new.acceptor
       (g.N.ClientSource.seen c.tend.new.net) 2 c.turn_desk.ensures.keeps))
-      (goes_at_acceptor c.turn_desk.new.desk (record c.turn_desk.new.desk { seat = c.retire_all.new.seat })
-      c.tend.new.acceptor c.retire_all.new.acceptor (g.N.ClientSource.seen c.tend.new.net)
-      (g.N.ClientSource.seen c.retire_all.new.net) refl c.retire_all.ensures.seat.1 c.retire_all.ensures.keeps);
-  all = lacks_any c.from_residual-in_err-retire_all.result _ _ c.from_residual-in_err-retire_all.ensures.1;
+      (goes_at_acceptor c.turn_desk.new.desk (record c.turn_desk.new.desk { seat = c.step_all.new.seat })
+      c.tend.new.acceptor c.step_all.new.acceptor (g.N.ClientSource.seen c.tend.new.net)
+      (g.N.ClientSource.seen c.step_all.new.net) refl c.step_all.ensures.seat.1 c.step_all.ensures.keeps);
+  all = lacks_any c.from_residual-in_err-step_all.result _ _ c.from_residual-in_err-step_all.ensures.1;
 }
 
 pub returns : goal.returns
 returns g c = record {
   at_desk = record {
-    seat = c.retire_all.ensures.seat.0;
+    seat = c.step_all.ensures.seat.0;
     pass = c.turn_desk.ensures.desk.pass;
     wheel = c.turn_desk.ensures.desk.wheel;
   };
-  at_acceptor = c.retire_all.ensures.acceptor;
+  at_acceptor = c.step_all.ensures.acceptor;
   goes = goes_further c.args.desk.now c.turn_desk.new.desk
-      (record c.turn_desk.new.desk { seat = c.retire_all.new.seat }) c.args.acceptor.now c.tend.new.acceptor
-      c.retire_all.new.acceptor (g.N.ClientSource.seen c.args.net.now) (g.N.ClientSource.seen c.tend.new.net)
-      (g.N.ClientSource.seen c.retire_all.new.net)
+      (record c.turn_desk.new.desk { seat = c.step_all.new.seat }) c.args.acceptor.now c.tend.new.acceptor
+      c.step_all.new.acceptor (g.N.ClientSource.seen c.args.net.now) (g.N.ClientSource.seen c.tend.new.net)
+      (g.N.ClientSource.seen c.step_all.new.net)
       (goes_further c.args.desk.now c.tend.new.desk c.turn_desk.new.desk c.args.acceptor.now
       c.tend.new.acceptor c.tend.new.acceptor (g.N.ClientSource.seen c.args.net.now) (g.N.ClientSource.seen c.tend.new.net)
       (g.N.ClientSource.seen c.tend.new.net) c.tend.ensures.goes
       (goes_at_desk c.tend.new.desk c.turn_desk.new.desk c.tend.new.acceptor
       (g.N.ClientSource.seen c.tend.new.net) 2 c.turn_desk.ensures.keeps))
-      (goes_at_acceptor c.turn_desk.new.desk (record c.turn_desk.new.desk { seat = c.retire_all.new.seat })
-      c.tend.new.acceptor c.retire_all.new.acceptor (g.N.ClientSource.seen c.tend.new.net)
-      (g.N.ClientSource.seen c.retire_all.new.net) refl c.retire_all.ensures.seat.1 c.retire_all.ensures.keeps);
-  all = λ had. c.in_ok-retire_all.ensures.all (c.in_ok-came.ensures.all had);
+      (goes_at_acceptor c.turn_desk.new.desk (record c.turn_desk.new.desk { seat = c.step_all.new.seat })
+      c.tend.new.acceptor c.step_all.new.acceptor (g.N.ClientSource.seen c.tend.new.net)
+      (g.N.ClientSource.seen c.step_all.new.net) refl c.step_all.ensures.seat.1 c.step_all.ensures.keeps);
+  all = λ had. c.in_ok-step_all.ensures.all (c.in_ok-came.ensures.all had);
 }

@@ -41,18 +41,18 @@ returns-in_err-start_handlers g c = record {
   all = lacks_any c.from_residual-in_err-start_handlers.result _ _ c.from_residual-in_err-start_handlers.ensures.1;
 }
 
-pub returns-in_err-retire_next : goal.returns-in_err-retire_next
-returns-in_err-retire_next g c = record {
+pub returns-in_err-step_next : goal.returns-in_err-step_next
+returns-in_err-step_next g c = record {
   at_desk = record {
-    seat = c.retire_next.ensures.seat.0;
+    seat = c.step_next.ensures.seat.0;
     pass = c.start_handlers.ensures.desk.pass;
     wheel = c.start_handlers.ensures.desk.wheel;
   };
-  at_acceptor = c.retire_next.ensures.acceptor;
+  at_acceptor = c.step_next.ensures.acceptor;
   goes = goes_further c.args.desk.now c.start_handlers.new.desk
-      (record c.start_handlers.new.desk { seat = c.retire_next.new.seat }) c.args.acceptor.now
-      (record c.accept_all.new.acceptor { row = c.start_handlers.new.row }) c.retire_next.new.acceptor
-      (g.N.ClientSource.seen c.args.net.now) (g.N.ClientSource.seen c.accept_all.new.net) (g.N.ClientSource.seen c.retire_next.new.net)
+      (record c.start_handlers.new.desk { seat = c.step_next.new.seat }) c.args.acceptor.now
+      (record c.accept_all.new.acceptor { row = c.start_handlers.new.row }) c.step_next.new.acceptor
+      (g.N.ClientSource.seen c.args.net.now) (g.N.ClientSource.seen c.accept_all.new.net) (g.N.ClientSource.seen c.step_next.new.net)
       (goes_further c.args.desk.now
       (record c.args.desk.now { seat = c.accept_all.new.seat }) c.start_handlers.new.desk c.args.acceptor.now
       c.accept_all.new.acceptor (record c.accept_all.new.acceptor { row = c.start_handlers.new.row })
@@ -63,26 +63,26 @@ returns-in_err-retire_next g c = record {
       (goes_at_start (record c.args.desk.now { seat = c.accept_all.new.seat }) c.start_handlers.new.desk
       c.accept_all.new.acceptor (record c.accept_all.new.acceptor { row = c.start_handlers.new.row })
       (g.N.ClientSource.seen c.accept_all.new.net) c.start_handlers.ensures.keeps refl refl refl c.start_handlers.ensures.row))
-      (goes_at_acceptor c.start_handlers.new.desk (record c.start_handlers.new.desk { seat = c.retire_next.new.seat })
-      (record c.accept_all.new.acceptor { row = c.start_handlers.new.row }) c.retire_next.new.acceptor
-      (g.N.ClientSource.seen c.accept_all.new.net) (g.N.ClientSource.seen c.retire_next.new.net) refl
-      (seat_some (view c.start_handlers.new.desk.seat) (view c.retire_next.new.seat) 1 c.retire_next.ensures.seat.1)
-      c.retire_next.ensures.keeps);
-  all = lacks_any c.from_residual-in_err-retire_next.result _ _ c.from_residual-in_err-retire_next.ensures.1;
+      (goes_at_acceptor c.start_handlers.new.desk (record c.start_handlers.new.desk { seat = c.step_next.new.seat })
+      (record c.accept_all.new.acceptor { row = c.start_handlers.new.row }) c.step_next.new.acceptor
+      (g.N.ClientSource.seen c.accept_all.new.net) (g.N.ClientSource.seen c.step_next.new.net) refl
+      (seat_some (view c.start_handlers.new.desk.seat) (view c.step_next.new.seat) 1 c.step_next.ensures.seat.1)
+      c.step_next.ensures.keeps);
+  all = lacks_any c.from_residual-in_err-step_next.result _ _ c.from_residual-in_err-step_next.ensures.1;
 }
 
 pub returns : goal.returns
 returns g c = record {
   at_desk = record {
-    seat = c.retire_next.ensures.seat.0;
+    seat = c.step_next.ensures.seat.0;
     pass = c.start_handlers.ensures.desk.pass;
     wheel = c.start_handlers.ensures.desk.wheel;
   };
-  at_acceptor = c.retire_next.ensures.acceptor;
+  at_acceptor = c.step_next.ensures.acceptor;
   goes = goes_further c.args.desk.now c.start_handlers.new.desk
-      (record c.start_handlers.new.desk { seat = c.retire_next.new.seat }) c.args.acceptor.now
-      (record c.accept_all.new.acceptor { row = c.start_handlers.new.row }) c.retire_next.new.acceptor
-      (g.N.ClientSource.seen c.args.net.now) (g.N.ClientSource.seen c.accept_all.new.net) (g.N.ClientSource.seen c.retire_next.new.net)
+      (record c.start_handlers.new.desk { seat = c.step_next.new.seat }) c.args.acceptor.now
+      (record c.accept_all.new.acceptor { row = c.start_handlers.new.row }) c.step_next.new.acceptor
+      (g.N.ClientSource.seen c.args.net.now) (g.N.ClientSource.seen c.accept_all.new.net) (g.N.ClientSource.seen c.step_next.new.net)
       (goes_further c.args.desk.now
       (record c.args.desk.now { seat = c.accept_all.new.seat }) c.start_handlers.new.desk c.args.acceptor.now
       c.accept_all.new.acceptor (record c.accept_all.new.acceptor { row = c.start_handlers.new.row })
@@ -93,12 +93,12 @@ returns g c = record {
       (goes_at_start (record c.args.desk.now { seat = c.accept_all.new.seat }) c.start_handlers.new.desk
       c.accept_all.new.acceptor (record c.accept_all.new.acceptor { row = c.start_handlers.new.row })
       (g.N.ClientSource.seen c.accept_all.new.net) c.start_handlers.ensures.keeps refl refl refl c.start_handlers.ensures.row))
-      (goes_at_acceptor c.start_handlers.new.desk (record c.start_handlers.new.desk { seat = c.retire_next.new.seat })
-      (record c.accept_all.new.acceptor { row = c.start_handlers.new.row }) c.retire_next.new.acceptor
-      (g.N.ClientSource.seen c.accept_all.new.net) (g.N.ClientSource.seen c.retire_next.new.net) refl
-      (seat_some (view c.start_handlers.new.desk.seat) (view c.retire_next.new.seat) 1 c.retire_next.ensures.seat.1)
-      c.retire_next.ensures.keeps);
-  all = λ had. c.in_ok-retire_next.ensures.all
+      (goes_at_acceptor c.start_handlers.new.desk (record c.start_handlers.new.desk { seat = c.step_next.new.seat })
+      (record c.accept_all.new.acceptor { row = c.start_handlers.new.row }) c.step_next.new.acceptor
+      (g.N.ClientSource.seen c.accept_all.new.net) (g.N.ClientSource.seen c.step_next.new.net) refl
+      (seat_some (view c.start_handlers.new.desk.seat) (view c.step_next.new.seat) 1 c.step_next.ensures.seat.1)
+      c.step_next.ensures.keeps);
+  all = λ had. c.in_ok-step_next.ensures.all
       (all_row c.accept_all.new.acceptor.row.items c.start_handlers.new.row.items
       (g.N.ClientSource.seen c.accept_all.new.net) c.start_handlers.ensures.row (c.accept_all.ensures.all had));
 }

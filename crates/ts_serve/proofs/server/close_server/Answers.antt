@@ -45,7 +45,7 @@ pub returns-clause-closed : goal.returns-clause-closed
 returns-clause-closed g c =
     let as_many = c.finish_left-handled.ensures.count ∙ ap length c.as_mut_slice.ensures.value in
     IfOk-weaker c.found_whole.result _ _
-    (λ found is. closed_over g.W.Handler.number_of g.W.Handler.holds_origin g.W.Handler.is_ended
+    (λ found is. closed_over g.W.Handler.whose_of g.W.Handler.is_ended
     (tags_of c.args.server.slots) c.in-Ok.groups.len c.finish_left-handled.new.groups c.in-Ok.groups.items
     found.value.items c.args.row.now.items c.clear_places-cleared.new.row.items c.finish_left-handled.result
     c.clear_places-cleared.result (ap (λ s. s.value.items) is.0 ∙ ap (λ v. v.items) c.of-found.ensures)

@@ -1,6 +1,6 @@
 use Rattle.ts_slot.specs.Words.{tags_of, view, IsSeatOf}
 use Rattle.ts_serve.specs.Acceptor.{HasPlacesOf, IsAcceptorOf, KeepsAcceptor, KeepsSome, LosesNobody}
-use Rattle.ts_serve.proofs.retire.retire_all.Given as goal
+use Rattle.ts_serve.proofs.steps.step_all.Given as goal
 
 abbrev pub invariant-places : goal.invariant-places
 invariant-places g l =

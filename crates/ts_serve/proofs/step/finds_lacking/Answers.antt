@@ -1,0 +1,7 @@
+-- A turn whose value is looked at stays as it is.
+use Rattle.std.proofs.Common.{ap}
+use Rattle.ts_slot.specs.Lent.{with_value}
+use Rattle.ts_serve.proofs.step.finds_lacking.Goals as goal
+
+pub returns : goal.returns
+returns g c = record { same = ap (with_value c.args.turn.now) c.value.ensures.value }
