@@ -23,6 +23,8 @@ use Rattle.ts_session.specs.Kept.{IsKept, close_line}
 use Rattle.ts_session.specs.Requests.{IsRequest}
 use Rattle.ts_session.specs.Session.{IsSent}
 use Rattle.ts_session.specs.declared.course.Course.{Course}
+use Rattle.ts_session.specs.declared.response.Sending.{Sending}
+use Rattle.ts_session.specs.declared.response.Sending.TheVariants as S
 use Rattle.ts_session.specs.declared.spanned.Spanned.{Spanned}
 use Rattle.ts_transform.specs.declared.transform.Transform as transform
 use Rattle.ts_txn.specs.declared.making.TxnParts.{TxnParts}
@@ -45,6 +47,14 @@ none_sent : (goes_on : Bool) (waits sent : List ℕ) → IsSent goes_on waits []
 none_sent true waits sent is = absurd (no_kept sent is)
 none_sent false waits [] is = refl
 none_sent false waits (b ∷ sent) is = absurd (cc)
+
+-- where the line was dropped, none of it waits
+none_waits : (x : Sending) → is_dropped x ≡ true → waiting x ≡ []
+none_waits S.Head is = absurd (cc)
+none_waits (S.Line count) is = absurd (cc)
+none_waits (S.Owed from to) is = absurd (cc)
+none_waits S.Passing is = absurd (cc)
+none_waits S.Dropped is = refl
 
 -- no bytes are no request, so where they are the first one of some bytes, these are none
 none_asked : (bytes : List ℕ) → [] ≡ first_request bytes → bytes ≡ []
@@ -148,6 +158,7 @@ module _ {C O P : Type 0} (client : link.Ghosts C) (origin : link.Ghosts O)
         took = behind_came (client.look c).before.1 (before_client client.look parts.client).1
             (client.look c).taken (shown client parts.client).before.1 (concat stands.responses) session.sent
             (ap (λ (b : List ℕ × List ℕ). b.1) last.since) session.took stands.took;
+        within_head = session.within_head;
       }
 
   -- THE END of a client that waited: its last transaction was the one behind which it waited
@@ -198,6 +209,7 @@ module _ {C O P : Type 0} (client : link.Ghosts C) (origin : link.Ghosts O)
             session.sent (ap (λ (b : List ℕ × List ℕ). b.1) came) session.took took
             ∙ ap (λ (l : List ℕ). (concat stands.responses ++ behind.sent) ++ l) no_sent
             ∙ append-nil (concat stands.responses ++ behind.sent);
+        within_head = λ ended. none_waits parts.client.response.sending went.dropped;
       }
 
   -- AND NOTHING IS LEFT OVER, once its poll has answered that it has ended or that it failed

@@ -1,6 +1,6 @@
 -- THE SESSIONS OF CLIENTS: what the transactions of one connection had for their requests, one after the
 -- other, and what its client took of their responses (RFC 9112, sections 9.3 and 9.6).
-use Rattle.std.specs.Prelude.{◌≡◌, ◌⊎◌, ◌<◌, ◌≤◌, ℕ, List, ◌++◌, true}
+use Rattle.std.specs.Prelude.{◌≡◌, ◌⊎◌, ◌<◌, ◌≤◌, ℕ, List, [], ◌++◌, true}
 use Rattle.std.specs.List.{concat}
 use Rattle.ts_config.specs.declared.setup.Setup.{Setup}
 use Rattle.ts_config.specs.declared.setup.TransformLine.{TransformLine}
@@ -14,6 +14,7 @@ use Rattle.ts_link.specs.Link.{all_of}
 use Rattle.ts_link.specs.declared.link.Link as link
 use Rattle.ts_session.specs.Course.{before_client, is_dropped, waiting}
 use Rattle.ts_session.specs.FirstRequest.{first_request}
+use Rattle.ts_session.specs.Lines.{HasEnded}
 use Rattle.ts_session.specs.Session.{IsSent, MayContinue}
 use Rattle.ts_session.specs.declared.course.Course.{Course}
 use Rattle.ts_session.specs.declared.spanned.Spanned.{Spanned}
@@ -76,8 +77,8 @@ module _ {C O P : Type 0} (client : link.Ghosts C) (origin : link.Ghosts O)
   -- stands its last one. All that it gave and may still give are the requests of those, and then the rest,
   -- whose first request is that of the last one, or all of it where that is no whole request. It took what
   -- was kept of the responses of those, and then of the last one's response what was kept, where the line
-  -- `connection: close` was dropped, which is done by the rule alone, or else all but the front of such a
-  -- line.
+  -- `connection: close` was dropped, which is done by the rule alone, or else all of it, but for the front of
+  -- such a line where its head had not ended.
   pub record HasSession (notes : List (Noted O)) (parts : TxnParts (Course C) (Spanned O)) (c : C)
       : Type 0 where
     pub stands : StandsAt parts.number notes parts.client
@@ -90,6 +91,8 @@ module _ {C O P : Type 0} (client : link.Ghosts C) (origin : link.Ghosts O)
     pub rule : is_dropped parts.client.response.sending ≡ true
         → MayContinue (shown client parts.client) parts.client.place
     pub took : (client.look c).taken ≡ concat stands.responses ++ sent
+    pub within_head : HasEnded (response_of client parts)
+        → waiting parts.client.response.sending ≡ []
 
   -- THE LAST TRANSACTION of a client that was handed over: what is left of it is what the transaction left,
   -- with the client in the place of its span
