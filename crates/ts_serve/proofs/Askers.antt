@@ -14,8 +14,12 @@ use Rattle.ts_group.specs.declared.either.Either.{Either}
 use Rattle.ts_group.specs.declared.either.Either.TheVariants.{One, Other}
 use Rattle.ts_group.specs.declared.either.EitherTag.{EitherTag}
 use Rattle.ts_group.specs.declared.either.EitherTag.TheVariants as kind
+use Rattle.ts_exchange.specs.Ends.{Ends}
+use Rattle.ts_exchange.specs.declared.exchange.Promise.{Promise}
+use Rattle.ts_layers.specs.Layers.{IsLayeredTag}
 use Rattle.ts_layers.specs.Links.{ClientEnd, OriginEnd, client_link, origin_link}
 use Rattle.ts_link.specs.declared.link.Link as link
+use Rattle.ts_phases.specs.Asking.{IsPluginGroup, IsRightReply}
 use Rattle.ts_plugin.specs.Replies.{IsReplyOf}
 use Rattle.ts_plugin.specs.World.{IsPluginOf, OnlyAnswers}
 use Rattle.ts_plugin.specs.declared.plugin.Plugin.{Plugin}
@@ -27,6 +31,7 @@ use Rattle.ts_txn.specs.Asking.{IsRightFor, MayAskGroup}
 use Rattle.ts_txn.specs.Making.{IsTxnSetup}
 use Rattle.ts_txn.specs.World.{IsTxnOf, LetsContinue}
 use Rattle.ts_txn.specs.declared.txn.Txn.{Txn}
+use Rattle.ts_txn.specs.declared.txn.TxnTag.{TxnTag}
 use Rattle.ts_serve.specs.Places.{FitsAtPlace, PlaceFits, PlaceMayAsk, PlaceRight, PlaceAnswers}
 use Rattle.ts_serve.specs.Servers.{CanAskInServer, StandsBeside, server_tags}
 use Rattle.ts_exchange.specs.Plugins.{ArePluginsOf, IsPluginOfLine}
@@ -97,38 +102,37 @@ line_at (l ∷ ls) (suc place) below = line_at ls place (omega arith)
 
 -- ---- who asks whom
 
-module _ (C O Q : Type 0) (clients : link.Ghosts C) (origins : link.Ghosts O) (setup : Setup) (terms : TxnTerms)
-    (others : List (Tagged Plugin PluginTag)) (setup_is : terms.setup.value ≡ setup)
-    (at_places : terms.plugins_at ≡ PLACES) (are : ArePluginsOf setup.plugins.items others) where
-  -- a transaction with layers, and the terms that it fits
-  abbrev Layered : Type 0
-  Layered = AtPlace (Txn (ClientEnd C) (OriginEnd O Q) Q)
-
-  abbrev FitsPlace : TxnTerms → Place Layered → Type 0
-  FitsPlace = PlaceFits (FitsAtPlace (IsTxnOf (client_link clients) (origin_link origins)))
-      (λ terms tag. KeepsTerms clients.look terms tag.value)
-
+-- Of handlers of which each asks the plugins of one setup alone, and for which what their lines say is right.
+module _ {W T A : Type 0} (Fits : T → W → Type 0) (Keeps : A → T → Type 0) (Asks : W → ℕ → Type 0)
+    (Right : W → ℕ → HookQuestion → HookReply → Type 0) (Replies : W → HookQuestion → HookReply → Type 0)
+    (setup : Setup) (terms : A) (others : List (Tagged Plugin PluginTag))
+    (are : ArePluginsOf setup.plugins.items others)
+    (asks : (w : W) → PlaceFits Fits Keeps terms (Tenant w) → (k : ℕ) → Asks w k → IsPluginGroup setup PLACES k)
+    (hears : (w : W) → PlaceFits Fits Keeps terms (Tenant w) → (k : ℕ) (q : HookQuestion) (r : HookReply)
+    → IsRightReply setup PLACES k q r → Right w k q r) where
   -- whom a world of the server may ask, which replies are right for it, and which it gives
-  abbrev ServerWorld : Type 0
-  ServerWorld = Either (Place Layered) Plugin
+  abbrev FitsPlace : A → Place W → Type 0
+  FitsPlace = PlaceFits Fits Keeps
 
-  abbrev FitsTag : EitherTag TxnTerms PluginTag → ServerWorld → Type 0
+  abbrev ServerWorld : Type 0
+  ServerWorld = Either (Place W) Plugin
+
+  abbrev FitsTag : EitherTag A PluginTag → ServerWorld → Type 0
   FitsTag = EitherFits FitsPlace IsPluginOf
 
   abbrev MayAsk : ServerWorld → ℕ → Type 0
-  MayAsk = EitherMayAsk (PlaceMayAsk (λ t. MayAskGroup t.value)) (λ p group. ⊥)
+  MayAsk = EitherMayAsk (PlaceMayAsk Asks) (λ p group. ⊥)
 
   abbrev IsRight : ServerWorld → ℕ → HookQuestion → HookReply → Type 0
-  IsRight = EitherRight (PlaceRight (λ t. IsRightFor t.value)) (λ p group question reply. ⊤)
+  IsRight = EitherRight (PlaceRight Right) (λ p group question reply. ⊤)
 
   abbrev Answers : ServerWorld → HookQuestion → HookReply → Type 0
-  Answers = EitherAnswers (PlaceAnswers (λ t question reply. LetsContinue question reply))
-      (λ p question reply. IsReplyOf p.line question reply)
+  Answers = EitherAnswers (PlaceAnswers Replies) (λ p question reply. IsReplyOf p.line question reply)
 
-  abbrev asked_only : EitherTag TxnTerms PluginTag → Bool
+  abbrev asked_only : EitherTag A PluginTag → Bool
   asked_only = tag_of (λ terms. false) (λ tag. true)
 
-  abbrev tags : List (EitherTag TxnTerms PluginTag)
+  abbrev tags : List (EitherTag A PluginTag)
   tags = server_tags terms others
 
   plugin_of : (place : ℕ) (line : PluginLine) → slice_get setup.plugins.items place ≡ Some line
@@ -140,33 +144,25 @@ module _ (C O Q : Type 0) (clients : link.Ghosts C) (origins : link.Ghosts O) (s
         line_is = on.line_is;
       }
 
-  -- a transaction in a place has the setup, and the groups behind the places for its plugins
-  own_setup : (j : ℕ) (own : TxnTerms) (t : Layered) → slice_get tags j ≡ Some (kind.One own)
-      → FitsPlace own (Tenant t)
-      → (arc_value t.value.core.setup ≡ setup) × (t.value.core.plugins_at ≡ PLACES)
-  own_setup j own t there fits =
-      let same = (place_tag PLACES j terms own others there).1 in
-      let tag = fits.1.tag_is in (
-        fits.2.value.setup ∙ tag.tag_is.setup_is ∙ tag.over.setup ∙ fits.1.ends_are.setup_is
-            ∙ ap (λ (s : TxnTerms). s.setup.value) same ∙ setup_is,
-        fits.2.value.plugins_at ∙ tag.tag_is.plugins_are ∙ tag.over.plugins_at ∙ fits.1.ends_are.plugins_are
-            ∙ ap (λ (s : TxnTerms). s.plugins_at) same ∙ at_places,
-      )
+  -- whoever lives in a place fits the terms of all places
+  own_terms : (j : ℕ) (own : A) (w : W) → slice_get tags j ≡ Some (kind.One own) → FitsPlace own (Tenant w)
+      → FitsPlace terms (Tenant w)
+  own_terms j own w there fits =
+      subst (λ a. FitsPlace a (Tenant w)) (place_tag PLACES j terms own others there).1 fits
 
   -- whom it may ask stands behind the places, and is only asked
-  asks_behind : (j k : ℕ) (own : TxnTerms) (t : Layered) → slice_get tags j ≡ Some (kind.One own)
-      → FitsPlace own (Tenant t) → MayAskGroup t.value k
-      → (j ≢ k) × (u : EitherTag TxnTerms PluginTag) × (slice_get tags k ≡ Some u) × (asked_only u ≡ true)
-  asks_behind j k own t there fits may =
+  asks_behind : (j k : ℕ) (own : A) (w : W) → slice_get tags j ≡ Some (kind.One own)
+      → FitsPlace own (Tenant w) → Asks w k
+      → (j ≢ k) × (u : EitherTag A PluginTag) × (slice_get tags k ≡ Some u) × (asked_only u ≡ true)
+  asks_behind j k own w there fits may =
       let below = (place_tag PLACES j terms own others there).0 in
-      let has = own_setup j own t there fits in
-      let group : k ≡ PLACES + may.place = may.group_is ∙ ap (λ n. n + may.place) has.1 in
-      let few = subst (λ (s : Setup). may.place < length s.plugins.items) has.0 may.there in
-      let (line, is) = line_at setup.plugins.items may.place few in
-      let p = plugin_of may.place line is in (
-        λ same. absurd (omega (arith, same, below, group)),
+      let group = asks w (own_terms j own w there fits) k may in
+      let at = group.group_is in
+      let (line, is) = line_at setup.plugins.items group.place group.there in
+      let p = plugin_of group.place line is in (
+        λ same. absurd (omega (arith, same, below, at)),
         kind.Other p.tag,
-        ap (slice_get tags) group ∙ p.there,
+        ap (slice_get tags) at ∙ p.there,
         refl,
       )
 
@@ -176,46 +172,83 @@ module _ (C O Q : Type 0) (clients : link.Ghosts C) (origins : link.Ghosts O) (s
   reply_of_tag tag line (One x) q r is fits answers = absurd fits
   reply_of_tag tag line (Other p) q r is fits answers = subst (λ l. IsReplyOf l q r) (fits ∙ is) answers
 
-  -- and what a plugin replies is right for a transaction that may ask it
-  right_of : (j k : ℕ) (own : TxnTerms) (u : EitherTag TxnTerms PluginTag) (t : Layered) (v : ServerWorld)
-      (q : HookQuestion) (r : HookReply) → slice_get tags j ≡ Some (kind.One own)
-      → FitsPlace own (Tenant t)
-      → slice_get tags k ≡ Some u → FitsTag u v → Answers v q r → IsRightFor t.value k q r
-  right_of j k own u t v q r there fits at fit answers place line is group =
-      let has = own_setup j own t there fits in
-      let stands = ap (λ (s : Setup). slice_get s.plugins.items place) (sym has.0) ∙ is in
-      let here : k ≡ PLACES + place = group ∙ ap (λ n. n + place) has.1 in
-      let p = plugin_of place line stands in
+  -- and what a plugin replies is right for a handler that may ask it
+  right_of : (j k : ℕ) (own : A) (u : EitherTag A PluginTag) (w : W) (v : ServerWorld)
+      (q : HookQuestion) (r : HookReply) → slice_get tags j ≡ Some (kind.One own) → FitsPlace own (Tenant w)
+      → slice_get tags k ≡ Some u → FitsTag u v → Answers v q r → Right w k q r
+  right_of j k own u w v q r there fits at fit answers = hears w (own_terms j own w there fits) k q r
+      (λ place line is group.
+      let p = plugin_of place line is in
       let same : u ≡ kind.Other p.tag =
-      same_Some u (kind.Other p.tag) (sym at ∙ ap (slice_get tags) here ∙ p.there) in
-      reply_of_tag p.tag line v q r p.line_is (subst (λ w. FitsTag w v) same fit) answers
+      same_Some u (kind.Other p.tag) (sym at ∙ ap (slice_get tags) group ∙ p.there) in
+      reply_of_tag p.tag line v q r p.line_is (subst (λ x. FitsTag x v) same fit) answers)
 
-  asks_others : (j k : ℕ) (s : EitherTag TxnTerms PluginTag) (w : ServerWorld) → slice_get tags j ≡ Some s
+  asks_others : (j k : ℕ) (s : EitherTag A PluginTag) (w : ServerWorld) → slice_get tags j ≡ Some s
       → FitsTag s w → MayAsk w k
-      → (j ≢ k) × (u : EitherTag TxnTerms PluginTag) × (slice_get tags k ≡ Some u) × (asked_only u ≡ true)
+      → (j ≢ k) × (u : EitherTag A PluginTag) × (slice_get tags k ≡ Some u) × (asked_only u ≡ true)
   asks_others j k (kind.One own) (One Empty) there fits may = absurd may
-  asks_others j k (kind.One own) (One (Tenant t)) there fits may = asks_behind j k own t there fits may
+  asks_others j k (kind.One own) (One (Tenant w)) there fits may = asks_behind j k own w there fits may
   asks_others j k (kind.One own) (Other p) there fits may = absurd fits
   asks_others j k (kind.Other s) (One x) there fits may = absurd fits
   asks_others j k (kind.Other s) (Other p) there fits may = absurd may
 
-  replies : (j k : ℕ) (s u : EitherTag TxnTerms PluginTag) (w v : ServerWorld) (q : HookQuestion) (r : HookReply)
+  replies : (j k : ℕ) (s u : EitherTag A PluginTag) (w v : ServerWorld) (q : HookQuestion) (r : HookReply)
       → slice_get tags j ≡ Some s → FitsTag s w → slice_get tags k ≡ Some u → FitsTag u v → Answers v q r
       → IsRight w k q r
   replies j k (kind.One own) u (One Empty) v q r there fits at fit answers = tt
-  replies j k (kind.One own) u (One (Tenant t)) v q r there fits at fit answers =
-      right_of j k own u t v q r there fits at fit answers
+  replies j k (kind.One own) u (One (Tenant w)) v q r there fits at fit answers =
+      right_of j k own u w v q r there fits at fit answers
   replies j k (kind.One own) u (Other p) v q r there fits at fit answers = tt
   replies j k (kind.Other s) u (One x) v q r there fits at fit answers = absurd fits
   replies j k (kind.Other s) u (Other p) v q r there fits at fit answers = tt
 
   -- the groups of the server can ask each other
-  pub server_asks : CanAskInServer (FitsAtPlace (IsTxnOf (client_link clients) (origin_link origins)))
-      (λ terms tag. KeepsTerms clients.look terms tag.value) (λ (t : Layered). MayAskGroup t.value)
-      (λ (t : Layered). IsRightFor t.value) (λ (t : Layered) question reply. LetsContinue question reply) IsPluginOf
-      (λ tag. true) (λ p group. ⊥) (λ p group question reply. ⊤)
-      (λ p question reply. IsReplyOf p.line question reply) tags
-  server_asks = record { others = asks_others; replies = replies }
+  pub handlers_ask : CanAskInServer Fits Keeps Asks Right Replies IsPluginOf (λ tag. true) (λ p group. ⊥)
+      (λ p group question reply. ⊤) (λ p question reply. IsReplyOf p.line question reply) tags
+  handlers_ask = record { others = asks_others; replies = replies }
+
+-- A transaction with layers in a place has the setup, and the groups behind the places for its plugins.
+module _ {C O Q : Type 0} (clients : link.Ghosts C) (origins : link.Ghosts O) (setup : Setup) (ends : Ends C O)
+    (promise : Promise) (tag : TxnTag (ClientEnd C) (OriginEnd O Q)) (t : Txn (ClientEnd C) (OriginEnd O Q) Q)
+    (layered : IsLayeredTag ends false promise false tag)
+    (fits : IsTxnOf (client_link clients) (origin_link origins) tag t) (setup_is : ends.setup ≡ setup)
+    (at_places : ends.plugins_at ≡ PLACES) where
+  own_setup : (arc_value t.core.setup ≡ setup) × (t.core.plugins_at ≡ PLACES)
+  own_setup = (
+    fits.setup ∙ layered.tag_is.setup_is ∙ layered.over.setup ∙ setup_is,
+    fits.plugins_at ∙ layered.tag_is.plugins_are ∙ layered.over.plugins_at ∙ at_places,
+  )
+
+  -- so it asks these alone
+  pub layered_asks : (k : ℕ) → MayAskGroup t k → IsPluginGroup setup PLACES k
+  layered_asks k may = subst (λ n. IsPluginGroup setup n k) own_setup.1
+      (subst (λ s. IsPluginGroup s t.core.plugins_at k) own_setup.0 may)
+
+  -- and what their lines say is right for it
+  pub layered_hears : (k : ℕ) (q : HookQuestion) (r : HookReply) → IsRightReply setup PLACES k q r
+      → IsRightFor t k q r
+  layered_hears k q r right = subst (λ s. IsRightReply s t.core.plugins_at k q r) (sym own_setup.0)
+      (subst (λ n. IsRightReply setup n k q r) (sym own_setup.1) right)
+
+-- the groups of a server of transactions can ask each other
+pub server_asks : (C O Q : Type 0) (clients : link.Ghosts C) (origins : link.Ghosts O) (setup : Setup)
+    (terms : TxnTerms) (others : List (Tagged Plugin PluginTag)) → terms.setup.value ≡ setup
+    → terms.plugins_at ≡ PLACES → ArePluginsOf setup.plugins.items others
+    → CanAskInServer (FitsAtPlace (IsTxnOf (client_link clients) (origin_link origins)))
+    (λ terms tag. KeepsTerms clients.look terms tag.value)
+    (λ (t : AtPlace (Txn (ClientEnd C) (OriginEnd O Q) Q)). MayAskGroup t.value) (λ t. IsRightFor t.value)
+    (λ t question reply. LetsContinue question reply) IsPluginOf
+    (λ tag. true) (λ p group. ⊥) (λ p group question reply. ⊤)
+    (λ p question reply. IsReplyOf p.line question reply) (server_tags terms others)
+server_asks C O Q clients origins setup terms others setup_is at_places are = handlers_ask
+    (FitsAtPlace (IsTxnOf (client_link clients) (origin_link origins)))
+    (λ terms tag. KeepsTerms clients.look terms tag.value)
+    (λ (t : AtPlace (Txn (ClientEnd C) (OriginEnd O Q) Q)). MayAskGroup t.value) (λ t. IsRightFor t.value)
+    (λ t question reply. LetsContinue question reply) setup terms others are
+    (λ t fits. layered_asks clients origins setup fits.1.ends fits.1.promise fits.0.value t.value fits.1.tag_is
+    fits.2.value (fits.1.ends_are.setup_is ∙ setup_is) (fits.1.ends_are.plugins_are ∙ at_places))
+    (λ t fits. layered_hears clients origins setup fits.1.ends fits.1.promise fits.0.value t.value fits.1.tag_is
+    fits.2.value (fits.1.ends_are.setup_is ∙ setup_is) (fits.1.ends_are.plugins_are ∙ at_places))
 
 -- ---- how plugins stand beside the places
 

@@ -2,8 +2,8 @@
 -- over.
 use Rattle.std.proofs.Common.{◌≡◌, ℕ, ◌+◌, ◌<◌, ◌≤◌, ◌⊎◌, inl, inr, cond, List, [], ◌∷◌, ◌++◌, All, Bool, true, false, not, length, get_or, set, replicate, is_some, refl, sym, ap, ◌∙◌, subst, arith}
 use Rattle.std.specs.List.{sum_by}
-use Rattle.std.proofs.lemmas.Bool.Decides.{nat_tests}
-use Rattle.std.proofs.lemmas.List.{length-set}
+use Rattle.std.proofs.lemmas.Bool.Decides.{eqb_tells, nat_tests}
+use Rattle.std.proofs.lemmas.List.{get_or-set_other, get_or-set_same, length-set}
 use Rattle.std.proofs.lemmas.List.Elements.{All-nil, All-push}
 use Rattle.std.proofs.lemmas.List.Folds.{sum_by-replicate}
 use Rattle.std.proofs.lemmas.List.Sums.{sum_by-append, sum_by-cons, sum_by-set}
@@ -19,31 +19,31 @@ use Rattle.ts_serve.specs.declared.connection.Connection.TheVariants.{Free, Acce
 use Rattle.ts_serve.specs.Stepping.{KeepsGiven}
 use Rattle.ts_serve.specs.Whose.{first_of, next_of, noted_of}
 use Rattle.ts_serve.specs.declared.whose.Whose.{Whose}
-use Rattle.ts_serve.specs.Balance.{IsBalanced, HasAll, HasNoMore, IsSameRow, had_number, has_number, is_given, is_taken, lacked_origin, lacks_origin}
+use Rattle.ts_serve.specs.Balance.{IsBalanced, HasAll, HasNoMore, IsSameClient, IsSameRow, had_number, has_number, is_given, is_taken, lacked_origin, lacks_origin}
 
 -- one client more was given, under the next number
 given_next : (given x : ℕ) → within 1 (given + 1 + 1) x ≡ within 1 (given + 1) x + same (given + 1) x
 given_next given x = grind (arith, nat_tests)
 
 -- a count that rose, or stands at its end, is no less
-counted_on : (rose : Bool) (old new : ℕ) → Counted rose old new → old ≤ new
+pub counted_on : (rose : Bool) (old new : ℕ) → Counted rose old new → old ≤ new
 counted_on true old new rose = omega arith
 counted_on false old new is = omega arith
 
 -- a count rose by one where it was counted, unless it stands at its end
-counted_one : (has : Bool) (old new : ℕ) → Counted (not has) old new
+pub counted_one : (has : Bool) (old new : ℕ) → Counted (not has) old new
     → (old + cond has 0 1 ≤ new) ⊎ (greatest ≤ new)
 counted_one true old new is = inl (omega arith)
 counted_one false old new rose = grind arith
 
 -- a sum over a row of which one place is in the row anew
-row_set : (f : Connection → ℕ) (row : List Connection) (k : ℕ) (was is : Connection) → k < length row
+pub row_set : (f : Connection → ℕ) (row : List Connection) (k : ℕ) (was is : Connection) → k < length row
     → get_or row k Free ≡ was → sum_by f (set row k is) + f was ≡ sum_by f row + f is
 row_set f row k was is below found =
     subst (λ b. sum_by f (set row k is) + f b ≡ sum_by f row + f is) found (sum_by-set f row k is Free below)
 
 -- a sum over what was handed over, of which there is one more
-sum_push : {A : Type 0} (f : A → ℕ) (xs : List A) (x : A) → sum_by f (xs ++ x ∷ []) ≡ sum_by f xs + f x
+pub sum_push : {A : Type 0} (f : A → ℕ) (xs : List A) (x : A) → sum_by f (xs ++ x ∷ []) ≡ sum_by f xs + f x
 sum_push f xs x =
     let one : sum_by f (x ∷ []) ≡ f x + sum_by f [] = sum_by-cons f x [] in
     let none : sum_by f [] ≡ 0 = refl in
@@ -164,29 +164,78 @@ module _ {C O : Type 0} (Done : Retired C O → Type 0) (misdials : ℕ) where
             elim balance.dialed [ inl few ↦ inl (omega arith) | inr end ↦ inr (omega arith) ];
       }
 
--- the row with another handler of the same client in a place has the same clients
-pub same_row : (row : List Connection) (k : ℕ) (whose next : Whose) (started : Bool) (made anew : ℕ)
-    → k < length row → get_or row k Free ≡ Accepted whose started made → next.number ≡ whose.number
-    → next.has_origin ≡ whose.has_origin → IsSameRow row (set row k (Accepted next false anew))
-same_row row k whose next started made anew below found number_is origin_is = record {
-  places = length-set row k (Accepted next false anew);
-  numbers = λ x.
-      let is : same next.number x ≡ same whose.number x = ap (λ n. same n x) number_is in
-      let more : sum_by (has_number x) (set row k (Accepted next false anew)) + same whose.number x
-      ≡ sum_by (has_number x) row + same next.number x =
-      row_set (has_number x) row k (Accepted whose started made) (Accepted next false anew) below found in
-      omega arith;
-  taken =
-      let more : sum_by is_taken (set row k (Accepted next false anew)) + 1 ≡ sum_by is_taken row + 1 =
-      row_set is_taken row k (Accepted whose started made) (Accepted next false anew) below found in
-      omega arith;
-  origins =
-      let is : cond {A = ℕ} next.has_origin 0 1 ≡ cond {A = ℕ} whose.has_origin 0 1 =
-      ap {B = ℕ} (λ (b : Bool). cond {A = ℕ} b 0 1) origin_is in
-      let more : sum_by lacks_origin (set row k (Accepted next false anew)) + cond whose.has_origin 0 1
-      ≡ sum_by lacks_origin row + cond next.has_origin 0 1 =
-      row_set lacks_origin row k (Accepted whose started made) (Accepted next false anew) below found in
-      omega arith;
+-- a connection stays what it is
+pub client_stays : (c : Connection) → IsSameClient c c
+client_stays Free = refl
+client_stays (Accepted whose started made) = (started, refl)
+
+pub client_on : (a b c : Connection) → IsSameClient a b → IsSameClient b c → IsSameClient a c
+client_on Free b c one two = subst (λ (d : Connection). IsSameClient d c) one two
+client_on (Accepted whose started made) b c one two = subst (λ (d : Connection). IsSameClient d c) one.1 two
+
+-- another handler of the same client stands in a place, in a group of its own
+module _ (row : List Connection) (k : ℕ) (whose : Whose) (started started' : Bool) (made anew : ℕ)
+    (below : k < length row) (found : get_or row k Free ≡ Accepted whose started made) where
+  pub numbers_anew : (x : ℕ)
+      → sum_by (has_number x) (set row k (Accepted whose started' anew)) ≡ sum_by (has_number x) row
+  numbers_anew x =
+      let more : sum_by (has_number x) (set row k (Accepted whose started' anew)) + same whose.number x
+      ≡ sum_by (has_number x) row + same whose.number x =
+      row_set (has_number x) row k (Accepted whose started made) (Accepted whose started' anew) below found in
+      omega arith
+
+  pub taken_anew : sum_by is_taken (set row k (Accepted whose started' anew)) ≡ sum_by is_taken row
+  taken_anew =
+      let more : sum_by is_taken (set row k (Accepted whose started' anew)) + 1 ≡ sum_by is_taken row + 1 =
+      row_set is_taken row k (Accepted whose started made) (Accepted whose started' anew) below found in
+      omega arith
+
+  pub origins_anew : sum_by lacks_origin (set row k (Accepted whose started' anew)) ≡ sum_by lacks_origin row
+  origins_anew =
+      let more : sum_by lacks_origin (set row k (Accepted whose started' anew)) + cond whose.has_origin 0 1
+      ≡ sum_by lacks_origin row + cond whose.has_origin 0 1 =
+      row_set lacks_origin row k (Accepted whose started made) (Accepted whose started' anew) below found in
+      omega arith
+
+  pub balance_anew : {C O : Type 0} (Done : Retired C O → Type 0) (misdials : ℕ) (net : NetSeen C O)
+      → IsBalanced Done misdials row net → IsBalanced Done misdials (set row k (Accepted whose started' anew)) net
+  balance_anew Done misdials net balance = record {
+    each = balance.each;
+    once = λ x. let was = balance.once x in let are = numbers_anew x in omega arith;
+    dialed = let are = origins_anew in
+        elim balance.dialed [ inl few ↦ inl (omega arith) | inr end ↦ inr end ];
+  }
+
+  pub all_anew : {C O : Type 0} (net : NetSeen C O) → HasAll row net
+      → HasAll (set row k (Accepted whose started' anew)) net
+  all_anew net all = let are = taken_anew in omega arith
+
+  pub no_more_anew : {C O : Type 0} (net : NetSeen C O) → HasNoMore row net
+      → HasNoMore (set row k (Accepted whose started' anew)) net
+  no_more_anew net few = let are = taken_anew in omega arith
+
+-- where its group is the same one, and was started or was not, the clients in the row are the same
+pub row_started : (row : List Connection) (k : ℕ) (whose : Whose) (started started' : Bool) (made : ℕ)
+    → k < length row → get_or row k Free ≡ Accepted whose started made
+    → IsSameRow row (set row k (Accepted whose started' made))
+row_started row k whose started started' made below found = record {
+  places = length-set row k (Accepted whose started' made);
+  clients = λ j. elim (eqb_tells j k) [
+    | inl same ↦
+        let here : get_or (set row k (Accepted whose started' made)) j Free ≡ Accepted whose started' made =
+        ap (λ i. get_or (set row k (Accepted whose started' made)) i Free) same.1
+        ∙ get_or-set_same row k (Accepted whose started' made) Free below in
+        let was : get_or row j Free ≡ Accepted whose started made = ap (λ i. get_or row i Free) same.1 ∙ found in
+        subst (λ (c : Connection). IsSameClient c (get_or (set row k (Accepted whose started' made)) j Free))
+        (sym was) (started', here)
+    | inr other ↦
+        subst (IsSameClient (get_or row j Free))
+        (sym (get_or-set_other row k j (Accepted whose started' made) Free other.1))
+        (client_stays (get_or row j Free))
+  ];
+  numbers = numbers_anew row k whose started started' made made below found;
+  taken = taken_anew row k whose started started' made made below found;
+  origins = origins_anew row k whose started started' made made below found;
 }
 
 -- A transaction was noted and an origin dialed for the next one of its client.

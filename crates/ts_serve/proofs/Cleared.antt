@@ -8,19 +8,30 @@ use mathlib.Core.Option.{some, some-ne-none}
 use lib.ListN.{get_elem?}
 use Rattle.ts_lists.proofs.Fronts.{taken_table}
 use Rattle.ts_lists.proofs.Places.{place_once}
+use Rattle.ts_journal.specs.Log.{Log}
+use Rattle.ts_journal.specs.State.{State}
+use Rattle.ts_journal.proofs.Final.{IsKept}
+use Rattle.ts_group.specs.declared.action.Named.{Named}
 use Rattle.ts_group.specs.declared.either.Either.{Either}
+use Rattle.ts_group.specs.declared.either.Either.TheVariants.{One}
+use Rattle.ts_group.specs.declared.either.EitherTag.{EitherTag}
+use Rattle.ts_group.specs.declared.either.EitherTag.TheVariants as tag
 use Rattle.ts_group.specs.declared.group.Group.{Group}
-use Rattle.ts_thread.specs.Goings.{IsIdle}
+use Rattle.ts_group.specs.Either.{EitherFits, EitherSound}
 use Rattle.ts_serve.specs.declared.acceptor.TheConstants.{PLACES}
 use Rattle.ts_serve.specs.declared.connection.Connection.{Connection}
 use Rattle.ts_serve.specs.declared.connection.Connection.TheVariants.{Free, Accepted}
 use Rattle.ts_serve.specs.declared.place.Place.{Place}
+use Rattle.ts_serve.specs.declared.place.Place.TheVariants.{Tenant}
 use Rattle.ts_serve.specs.declared.whose.Whose.{Whose}
 use Rattle.ts_serve.specs.Starting.{OthersStay, RestStays}
 use Rattle.ts_serve.proofs.LookedAt.{one_whose}
 use Rattle.ts_serve.proofs.NowStarted.{rest_on}
-use Rattle.ts_serve.specs.TakingOut.{AreCleared, IsCleared, IsClosedOver}
-use Rattle.ts_serve.specs.Tenants.{HoldsRunning}
+use Rattle.ts_serve.specs.Leftover.{IsIdleOrWaits}
+use Rattle.ts_serve.specs.Places.{PlaceFits, PlaceSound}
+use Rattle.ts_serve.specs.TakingOut.{AreCleared, IsCleared, IsClosedOver, MayHandOver, StillRuns}
+use Rattle.ts_serve.specs.Tenants.{FitsTerms, HasStoodIn}
+use Rattle.ts_serve.proofs.Tenants.{ended_in, one_handler, stood_in}
 
 -- what is left of a list stands in it from the k-th place on
 abbrev pub StandFrom : {A : Type 0} → ℕ → List A → List A → Type 0
@@ -62,26 +73,61 @@ stand_none k j xs rest x none stand at =
     absurd (some-ne-none x (sym at ∙ sym same)))
     (cases_lt j k)
 
-module _ {W P Q R T U : Type 0} (whose_of : W → Whose) (is_ended : W → Bool) where
+module _ {W : Type 0} (Sound : W → State → List Named → Type 0) (whose_of : W → Whose)
+    (is_ended may_wait : W → Bool) where
+  -- whoever may be handed over is whose handler it was to be
+  pub whose_over : {P : Type 0} (whose : Whose) (world : Either (Place W) P) (w : W)
+      → world ≡ One (Tenant w) → MayHandOver Sound whose_of is_ended may_wait whose world → whose_of w ≡ whose
+  whose_over whose world w is (inl ended) =
+      ap whose_of (sym (one_handler ended.handler w (sym ended.lives ∙ is))) ∙ ended.whose_is
+  whose_over whose world w is (inr waits) =
+      ap whose_of (sym (one_handler waits.handler w (sym waits.lives ∙ is))) ∙ waits.whose_is
+
+-- whoever may be handed over has stood in the place
+pub over_in : {W T A P U Q R X : Type 0} (Fits : T → W → Type 0) (Keeps : A → T → Type 0)
+    (Sound : W → State → List Named → Type 0) (Other : U → P → Type 0)
+    (SoundOther : P → State → List Named → Type 0) (only_asked is_first : U → Bool) (whose_of : W → Whose)
+    (is_ended may_wait : W → Bool) (whose : Whose) (terms : A)
+    (g : Group (Either (Place W) P) Q R (EitherTag A U) X) (w : W) (journal : Log)
+    → MayHandOver Sound whose_of is_ended may_wait whose g.world → g.world ≡ One (Tenant w)
+    → journal ≡ g.cx.log → IsKept g.cx.log
+    → FitsTerms Fits Keeps Sound Other SoundOther only_asked is_first terms g
+    → HasStoodIn Fits Keeps Sound is_ended may_wait terms w journal
+over_in Fits Keeps Sound Other SoundOther only_asked is_first whose_of is_ended may_wait whose terms g w
+    journal (inl ended) is same kept fits =
+    stood_in Fits Keeps Sound is_ended may_wait terms w journal
+    (ended_in Fits Keeps Sound Other SoundOther only_asked is_first whose_of is_ended whose terms g w journal
+    ended is same kept fits)
+over_in Fits Keeps Sound Other SoundOther only_asked is_first whose_of is_ended may_wait whose terms g w
+    journal (inr waits) is same kept fits =
+    subst (HasStoodIn Fits Keeps Sound is_ended may_wait terms w) (sym same)
+    (record {
+      fits = subst (λ v. EitherFits (PlaceFits Fits Keeps) Other (tag.One terms) v) is fits.0;
+      roles = g.cx.roles;
+      sound = subst (λ v. EitherSound (PlaceSound Sound) SoundOther v g.cx.log.state g.cx.roles) is fits.1;
+      stood = inr (ap may_wait (sym (one_handler waits.handler w (sym waits.lives ∙ is))) ∙ waits.waits);
+    })
+
+module _ {W P Q R T U : Type 0} (whose_of : W → Whose) (is_ended may_wait : W → Bool) where
   -- whoever was in the row for a place is not in it any more
   pub goes_out : (k : ℕ) (g : Group (Either (Place W) P) Q R T U) (row row' : List Connection)
-      → get_or row' k Free ≡ Free → IsCleared whose_of is_ended k g row row'
+      → get_or row' k Free ≡ Free → IsCleared whose_of is_ended may_wait k g row row'
   goes_out k g row row' out whose started made was = inl out
 
-  -- or stays in it, where its handler has not ended
+  -- or stays in it, where its handler runs still
   pub runs_on : (k : ℕ) (g : Group (Either (Place W) P) Q R T U) (row row' : List Connection) (whose : Whose)
       (started : Bool) (made : ℕ) → get_or row k Free ≡ Accepted whose started made
-      → HoldsRunning whose_of is_ended whose g.world → IsCleared whose_of is_ended k g row row'
+      → StillRuns whose_of is_ended may_wait whose g → IsCleared whose_of is_ended may_wait k g row row'
   runs_on k g row row' whose started made found runs other since anew was =
       let both : Accepted whose started made ≡ Accepted other since anew = sym found ∙ was in
-      inr (subst (λ (v : Whose). HoldsRunning whose_of is_ended v g.world)
+      inr (subst (λ (v : Whose). StillRuns whose_of is_ended may_wait v g)
       (one_whose whose other started since made anew both) runs)
 
   -- the first k places are cleared, and the others are what they were
   pub record AreClearedTo (k : ℕ) (groups : List (Group (Either (Place W) P) Q R T U)) (old new : List Connection) :
       Type 0 where
     pub each : (j : ℕ) (g : Group (Either (Place W) P) Q R T U) → j < k → get_elem? groups j ≡ some g
-        → IsCleared whose_of is_ended j g old new
+        → IsCleared whose_of is_ended may_wait j g old new
     pub rest : RestStays k old new
 
   -- the same, unless memory lacked for one of them
@@ -100,28 +146,28 @@ module _ {W P Q R T U : Type 0} (whose_of : W → Whose) (is_ended : W → Bool)
   last_cleared : (k j : ℕ) (groups : List (Group (Either (Place W) P) Q R T U)) (old mid new : List Connection)
       (g h : Group (Either (Place W) P) Q R T U) → j ≡ k → get_elem? groups k ≡ some g
       → get_elem? groups j ≡ some h → RestStays k old mid
-      → IsCleared whose_of is_ended k g mid new
-      → IsCleared whose_of is_ended j h old new
+      → IsCleared whose_of is_ended may_wait k g mid new
+      → IsCleared whose_of is_ended may_wait j h old new
   last_cleared k j groups old mid new g h here at there rest one =
       let found : get_elem? groups k ≡ some h = subst (λ (i : ℕ). get_elem? groups i ≡ some h) here there in
-      let since : IsCleared whose_of is_ended k g old new =
+      let since : IsCleared whose_of is_ended may_wait k g old new =
       λ whose started made was. one whose started made (rest k (omega arith) ∙ was) in
-      subst (λ (i : ℕ). IsCleared whose_of is_ended i h old new) (sym here)
-      (subst (λ x. IsCleared whose_of is_ended k x old new)
+      subst (λ (i : ℕ). IsCleared whose_of is_ended may_wait i h old new) (sym here)
+      (subst (λ x. IsCleared whose_of is_ended may_wait k x old new)
       (place_once groups k g h at found) since)
 
   -- what a place came to, where its connection is what it was
   stays_cleared : (j : ℕ) (g : Group (Either (Place W) P) Q R T U) (mid new : List Connection)
       (whose : Whose) → get_or new j Free ≡ get_or mid j Free
-      → (get_or mid j Free ≡ Free) ⊎ HoldsRunning whose_of is_ended whose g.world
-      → (get_or new j Free ≡ Free) ⊎ HoldsRunning whose_of is_ended whose g.world
+      → (get_or mid j Free ≡ Free) ⊎ StillRuns whose_of is_ended may_wait whose g
+      → (get_or new j Free ≡ Free) ⊎ StillRuns whose_of is_ended may_wait whose g
   stays_cleared j g mid new whose same (inl out) = inl (same ∙ out)
   stays_cleared j g mid new whose same (inr runs) = inr runs
 
   -- one place more
   pub one_more_cleared : (k : ℕ) (groups : List (Group (Either (Place W) P) Q R T U)) (old mid new : List Connection)
       (g : Group (Either (Place W) P) Q R T U) → get_elem? groups k ≡ some g → OthersStay k mid new
-      → IsCleared whose_of is_ended k g mid new → AreClearedTo k groups old mid
+      → IsCleared whose_of is_ended may_wait k g mid new → AreClearedTo k groups old mid
       → AreClearedTo (k + 1) groups old new
   one_more_cleared k groups old mid new g at others one before = record {
     each = λ j h low there whose started made was.
@@ -140,7 +186,7 @@ module _ {W P Q R T U : Type 0} (whose_of : W → Whose) (is_ended : W → Bool)
   pub clears_more : {E : Type 0} (k : ℕ) (groups : List (Group (Either (Place W) P) Q R T U))
       (old mid new : List Connection) (g : Group (Either (Place W) P) Q R T U) (answer : Result (Unit {0}) E)
       → get_elem? groups k ≡ some g → OthersStay k mid new
-      → IsCleared whose_of is_ended k g mid new → ClearsOn k groups old mid answer
+      → IsCleared whose_of is_ended may_wait k g mid new → ClearsOn k groups old mid answer
       → ClearsOn (k + 1) groups old new answer
   clears_more k groups old mid new g (Ok u) at others one before =
       one_more_cleared k groups old mid new g at others one before
@@ -151,7 +197,7 @@ module _ {W P Q R T U : Type 0} (whose_of : W → Whose) (is_ended : W → Bool)
       (answer : Result (Unit {0}) E)
       → ((j : ℕ) (g : Group (Either (Place W) P) Q R T U) → j < PLACES → get_elem? groups j ≡ some g → j < k)
       → ClearsOn k groups old new answer
-      → OnOk answer (AreCleared whose_of is_ended groups old new)
+      → OnOk answer (AreCleared whose_of is_ended may_wait groups old new)
   all_cleared k groups old new (Ok u) behind on = λ j g low at. on.each j g (behind j g low at) at
   all_cleared k groups old new (Err e) behind on = tt
 
@@ -160,16 +206,16 @@ module _ {W P Q R T U : Type 0} (whose_of : W → Whose) (is_ended : W → Bool)
       (left old found : List (Group (Either (Place W) P) Q R T U)) (row row' : List Connection)
       (handled : Result (Unit {0}) E) (cleared : Result (Unit {0}) F)
       → found ≡ take count (left ++ drop (length left) old) → length left ≡ count → length left ≡ length tags
-      → handled ≡ Ok tt → OnOk handled (All IsIdle left) → cleared ≡ Ok tt
-      → OnOk cleared (AreCleared whose_of is_ended (take count (left ++ drop (length left) old))
-      row row') → IsClosedOver whose_of is_ended tags found row row'
+      → handled ≡ Ok tt → OnOk handled (All (IsIdleOrWaits may_wait) left) → cleared ≡ Ok tt
+      → OnOk cleared (AreCleared whose_of is_ended may_wait (take count (left ++ drop (length left) old))
+      row row') → IsClosedOver whose_of is_ended may_wait tags found row row'
   closed_over tags count left old found row row' handled cleared same long many done idle all out =
-      let there : IsClosedOver whose_of is_ended tags (take count (left ++ drop (length left) old))
+      let there : IsClosedOver whose_of is_ended may_wait tags (take count (left ++ drop (length left) old))
       row row' = record {
         count = taken_table (λ gs. length gs ≡ length tags) count left old long many;
-        idle = taken_table (λ gs. All IsIdle gs) count left old long
-            (subst (λ r. OnOk r (All IsIdle left)) done idle);
-        cleared = subst (λ r. OnOk r (AreCleared whose_of is_ended
+        idle = taken_table (λ gs. All (IsIdleOrWaits may_wait) gs) count left old long
+            (subst (λ r. OnOk r (All (IsIdleOrWaits may_wait) left)) done idle);
+        cleared = subst (λ r. OnOk r (AreCleared whose_of is_ended may_wait
             (take count (left ++ drop (length left) old)) row row')) all out;
       } in
-      subst (λ gs. IsClosedOver whose_of is_ended tags gs row row') (sym same) there
+      subst (λ gs. IsClosedOver whose_of is_ended may_wait tags gs row row') (sym same) there

@@ -1,6 +1,6 @@
 -- How the first thread goes on with a client whose handler was taken out of its place.
 use Rattle.std.proofs.Common.{◌≡◌, ◌≢◌, ◌∙◌, ℕ, ◌+◌, ◌<◌, inl, inr, List, ◌∷◌, Bool, true, false, Option, Some, None, get_or, length, set, is_some, refl, sym, ap, subst, arith}
-use Rattle.std.specs.Prelude.{IfSome}
+use Rattle.std.specs.Prelude.{IfSome, IsErrAnd, Result, Ok, Err}
 use Rattle.std.specs.List.{sum_by}
 use Rattle.std.proofs.lemmas.List.{get_or-set_other, get_or-set_same, length-set}
 use Rattle.ts_journal.specs.Machine.{HasLived}
@@ -19,17 +19,39 @@ use Rattle.ts_txn.specs.Net.{IsHanded, NetSeen}
 use Rattle.ts_txn.specs.declared.net.NetCounts.{NetCounts}
 use Rattle.ts_txn.specs.declared.retired.Noted.{Noted}
 use Rattle.ts_txn.specs.declared.retired.Retired.{Retired}
-use Rattle.ts_serve.specs.Balance.{HasAll, HasNoMore, IsBalanced, IsSameRow}
+use Rattle.ts_serve.specs.Balance.{HasAll, HasNoMore, IsSameRow}
 use Rattle.ts_serve.specs.Leaving.{BecomesOf, LeavesWhose}
 use Rattle.ts_serve.specs.Starting.{OthersStay}
 use Rattle.ts_serve.specs.Stepping.{ChangesAt, ComesNext, ComesTo, IsNextIn, IsOpened, IsStartedIn, KeepsGiven}
 use Rattle.ts_serve.specs.Tenants.{HoldsHandler, IsPlaceOf, MayLive, MayLiveAt}
 use Rattle.ts_serve.specs.Whose.{next_of, noted_of}
+use Rattle.ts_lists.proofs.Places.{place_once}
+use Rattle.ts_serve.specs.Balance.{row_after}
+use Rattle.ts_serve.specs.declared.arrival.Arrival.{Arrival}
+use Rattle.ts_serve.specs.declared.arrival.Arrival.TheVariants as arrival
 use Rattle.ts_serve.specs.declared.connection.Connection.{Connection}
 use Rattle.ts_serve.specs.declared.connection.Connection.TheVariants.{Accepted, Free}
 use Rattle.ts_serve.specs.declared.place.Place.{Place}
 use Rattle.ts_serve.specs.declared.whose.Whose.{Whose}
-use Rattle.ts_serve.proofs.Balance.{all_out, balance_out, balance_row, no_more_out, same_row}
+use Rattle.ts_serve.proofs.Balance.{all_anew, all_out, no_more_anew, no_more_out}
+use Rattle.ts_serve.proofs.Books.{books_anew, books_out}
+use Rattle.ts_serve.specs.Knowledge.{DoneAndSpent, IsServing, KnowsPlace, KnowsSessions, KnownGroups}
+use Rattle.ts_serve.specs.Notes.{AreBooks, NotesAndDials, notes_of}
+use Rattle.ts_serve.proofs.Knowledge.{knows_more, knows_row, server_anew, server_goes, server_in, server_on, server_out, server_same}
+use Rattle.ts_thread.specs.Seats.{More}
+use Rattle.ts_txn.specs.Net.{IsHandedNothing}
+use Rattle.ts_serve.specs.Stepping.{Goes, IsFollowed, Proceeds, Waits, next_in}
+use Rattle.ts_serve.specs.Whose.{first_of}
+use Rattle.std.proofs.lemmas.Option.{IfSome_then}
+use Rattle.std.proofs.Common.{◌⊎◌, [], ◌++◌}
+use Rattle.ts_serve.specs.Tenants.{IsEmptyGroup}
+use Rattle.ts_serve.specs.declared.place.Place.TheVariants.{Empty}
+use Rattle.ts_thread.specs.Seats.{KnowsTurn}
+use Rattle.ts_journal.specs.Log.{Base}
+use Rattle.ts_group.specs.declared.either.Either.TheVariants.{One}
+use Rattle.ts_group.specs.declared.either.EitherTag.TheVariants as tag
+use Rattle.ts_group.specs.Either.{EitherFits}
+use Rattle.ts_serve.specs.Places.{PlaceFits}
 
 -- ---- the turn
 
@@ -86,12 +108,6 @@ comes_further whose_of k made whose noted has w row row' of_whose is set_is = re
   is = set_is ∙ ap (λ v. set row k (Accepted v false made)) (sym is);
 }
 
--- another handler of the same client in its place
-waits_row : (row : List Connection) (k : ℕ) (whose : Whose) → IsStartedIn k whose row → (anew : ℕ)
-    → IsSameRow row (set row k (Accepted whose false anew))
-waits_row row k whose started anew =
-    same_row row k whose whose true started.made anew started.below started.accepted refl refl
-
 -- ---- the books
 
 module _ {C O : Type 0} (row : List Connection) (k : ℕ) (whose : Whose) (started : IsStartedIn k whose row) where
@@ -112,30 +128,32 @@ module _ {C O : Type 0} (row : List Connection) (k : ℕ) (whose : Whose) (start
             handed.given;
       }
 
-      pub balance_retired : (Done : Retired C O → Type 0) (misdials : ℕ) → tells ≡ true
+      pub books_retired : (Done : Retired C O → Type 0) (Note : Noted O → Type 0) (misdials : ℕ) → tells ≡ true
           → retired.parts.number ≡ whose.number → is_some retired.parts.origin ≡ whose.has_origin → Done retired
-          → IsBalanced Done misdials row old → IsBalanced Done misdials (set row k Free) new
-      balance_retired Done misdials telling number_is origin_is done =
-          balance_out Done misdials row k whose true started.made retired old new started.below started.accepted
+          → AreBooks Done Note misdials row old → AreBooks Done Note misdials (set row k Free) new
+      books_retired Done Note misdials telling number_is origin_is done =
+          books_out Done Note misdials row k whose true started.made retired old new started.below started.accepted
           (subst (λ told. IsHanded told retired old new) telling handed) number_is origin_is done
 
   -- another handler of the client comes next
 
   pub all_waiting : (anew : ℕ) (net : NetSeen C O) → HasAll row net
       → HasAll (set row k (Accepted whose false anew)) net
-  all_waiting anew net all = let same = (waits_row row k whose started anew).taken in omega arith
+  all_waiting anew net =
+      all_anew row k whose true false started.made anew started.below started.accepted net
 
   pub given_waiting : (anew : ℕ) (net : NetSeen C O)
       → KeepsGiven row (set row k (Accepted whose false anew)) net net
   given_waiting anew net = record {
     net = record { given = refl; ends = refl; faults = refl };
-    no_more = λ few. let same = (waits_row row k whose started anew).taken in omega arith;
+    no_more = no_more_anew row k whose true false started.made anew started.below started.accepted net;
   }
 
-  pub balance_waiting : (Done : Retired C O → Type 0) (misdials anew : ℕ) (net : NetSeen C O)
-      → IsBalanced Done misdials row net → IsBalanced Done misdials (set row k (Accepted whose false anew)) net
-  balance_waiting Done misdials anew net =
-      balance_row Done misdials row (set row k (Accepted whose false anew)) net (waits_row row k whose started anew)
+  pub books_waiting : (Done : Retired C O → Type 0) (Note : Noted O → Type 0) (misdials anew : ℕ)
+      (net : NetSeen C O) → AreBooks Done Note misdials row net
+      → AreBooks Done Note misdials (set row k (Accepted whose false anew)) net
+  books_waiting Done Note misdials anew net =
+      books_anew Done Note misdials row k whose true false started.made anew net started.below started.accepted
 
 -- nothing was done
 pub given_none : {C O : Type 0} (row : List Connection) (net : NetSeen C O) → KeepsGiven row row net net
@@ -169,3 +187,171 @@ comes_to whose_of k group turn made whose row row' known (Some w) below here sam
   };
   succeeds = is.succeeds;
 })
+
+-- ---- who was left
+
+module _ {W T A P V : Type 0} (Fits : T → W → Type 0) (Keeps : A → T → Type 0) (Other : V → P → Type 0)
+    {Q R U : Type 0} where
+  -- the group of an empty place fits any terms
+  pub empty_left : (terms : A) (known : KnownGroups W A P V Q R U) (k turn : ℕ)
+      (g : Group (Either (Place W) P) Q R (EitherTag A V) U) → IsEmptyGroup turn g → KnowsTurn k turn g known
+      → KnowsPlace Fits Keeps Other terms known k turn
+  empty_left terms known k turn g empty knows = record {
+    group = g;
+    made = ap (λ (b : Base). b.made) empty.fresh.base;
+    fits = subst (EitherFits (PlaceFits Fits Keeps) Other (tag.One terms)) (sym empty.empty) tt;
+    known_is = knows;
+  }
+
+-- an answer that says that memory lacked has no next handler
+pub no_next : {W E : Type 0} (r : Result (Option W) E) (e : E) → IsErrAnd r (λ x. x ≡ e) → next_in r ≡ None
+no_next (Ok o) e is = absurd is
+no_next (Err x) e is = refl
+
+pub no_next_lives : {W E : Type 0} (r : Result (Option W) E) (e : E) (Lives : W → Type 0)
+    → IsErrAnd r (λ x. x ≡ e) → IfSome (next_in r) Lives
+no_next_lives (Ok o) e Lives is = absurd is
+no_next_lives (Err x) e Lives is = tt
+
+-- where nobody came, the row is what it was
+pub nobody_row : {C O : Type 0} (k number made : ℕ) (answer : Arrival C O) (row : List Connection)
+    → ((client : C) (origin : Option O) → answer ≡ arrival.Came client origin → ⊥)
+    → row_after k number made answer row ≡ row
+nobody_row k number made (arrival.Came client origin) row not = absurd (not client origin refl)
+nobody_row k number made arrival.Nobody row not = refl
+nobody_row k number made arrival.Closed row not = refl
+nobody_row k number made arrival.Failed row not = refl
+
+-- a place is of one kind of terms
+pub same_terms : {A V : Type 0} (tags : List (EitherTag A V)) (k : ℕ) (t u : A) → IsPlaceOf tags k t
+    → IsPlaceOf tags k u → t ≡ u
+same_terms tags k t u one other =
+    let same : ◌≡◌ {A = EitherTag _ _} (tag.One t) (tag.One u) = place_once tags k (tag.One t) (tag.One u) one other in
+    cc
+
+-- ---- the server
+
+module _ {W T A P V C O : Type 0} (Fits : T → W → Type 0) (Keeps : A → T → Type 0) (Other : V → P → Type 0)
+    (behind : A → List (Noted O) → A) (Done Spent : A → Retired C O → Type 0) (Note : A → Noted O → Type 0)
+    {Q R U : Type 0} (terms : A) (misdials : ℕ) where
+  -- the seat knows more
+  pub serves_more : (known more : KnownGroups W A P V Q R U) (row : List Connection) (net : NetSeen C O)
+      → More known more
+      → IsServing Fits Keeps Other behind Done Spent Note terms misdials known row net
+      → IsServing Fits Keeps Other behind Done Spent Note terms misdials more row net
+  serves_more known more row net all was = record {
+    books = was.books;
+    sessions = record {
+      knows = knows_more Fits Keeps Other behind terms known more row net all was.sessions.knows;
+      had = was.sessions.had;
+    };
+  }
+
+  -- a client came, whose first handler was left in its place, or the group of an empty place
+  pub serves_came : (known more : KnownGroups W A P V Q R U) (row row' : List Connection) (k number made : ℕ)
+      (has : Bool) (old new : NetSeen C O) → k < length row → number ≡ old.given + 1
+      → row' ≡ set row k (Accepted (first_of number has) false made) → IsHandedNothing old new → More known more
+      → KnowsPlace Fits Keeps Other (behind terms []) more k made
+      → AreBooks (Done terms) (Note terms) misdials row' new
+      → IsServing Fits Keeps Other behind Done Spent Note terms misdials known row old
+      → IsServing Fits Keeps Other behind Done Spent Note terms misdials more row' new
+  serves_came known more row row' k number made has old new below number_is is nothing all here books was =
+      record {
+        books = books;
+        sessions = subst (λ (r : List Connection).
+            KnowsSessions Fits Keeps Other behind terms (DoneAndSpent Done Spent) more r new) (sym is)
+            (server_in Fits Keeps Other behind terms (DoneAndSpent Done Spent) (Note terms) misdials more row k
+            number made has old new below number_is nothing was.books.notes here
+            (serves_more known more row old all was).sessions);
+      }
+
+  -- nobody came
+  pub serves_nobody : (known more : KnownGroups W A P V Q R U) (row row' : List Connection) (old new : NetSeen C O)
+      → row' ≡ row → IsHandedNothing old new → More known more
+      → AreBooks (Done terms) (Note terms) misdials row' new
+      → IsServing Fits Keeps Other behind Done Spent Note terms misdials known row old
+      → IsServing Fits Keeps Other behind Done Spent Note terms misdials more row' new
+  serves_nobody known more row row' old new is nothing all books was = record {
+    books = books;
+    sessions = subst (λ (r : List Connection).
+        KnowsSessions Fits Keeps Other behind terms (DoneAndSpent Done Spent) more r new) (sym is)
+        (server_same Fits Keeps Other behind terms (DoneAndSpent Done Spent) more row old new nothing
+        (serves_more known more row old all was).sessions);
+  }
+
+  module _ (Sound : W → State → List Named → Type 0) (tells : Bool) (telling : tells ≡ true)
+      (Becomes Are : A → Type 0) (k made : ℕ) (whose : Whose) (row row' : List Connection)
+      (old new : NetSeen C O) (next : Option W) (known : KnownGroups W A P V Q R U) (are : Are terms)
+      (started : IsStartedIn k whose row)
+      (becomes : Becomes (behind terms (notes_of whose.number old.noted)))
+      (left : (t : A) → IfSome next (MayLive Fits Keeps Sound t) → KnowsPlace Fits Keeps Other t known k made)
+      (books : AreBooks (Done terms) (Note terms) misdials row' new)
+      (was : IsServing Fits Keeps Other behind Done Spent Note terms misdials known row old) where
+    abbrev Sessions : List Connection → NetSeen C O → Type 0
+    Sessions r net = KnowsSessions Fits Keeps Other behind terms (DoneAndSpent Done Spent) known r net
+
+    serves_gone : Goes tells Becomes Are (MayLive Fits Keeps Sound) behind (DoneAndSpent Done Spent) k made whose
+        row row' old new next → Sessions row' new
+    serves_gone goes =
+        let done : DoneAndSpent Done Spent (behind terms (notes_of goes.retired.parts.number old.noted))
+        goes.retired =
+        subst (λ n. DoneAndSpent Done Spent (behind terms (notes_of n old.noted)) goes.retired)
+        (sym goes.number_is) (goes.done (behind terms (notes_of whose.number old.noted)) becomes) in
+        subst (λ r. Sessions r new) (sym goes.row_is)
+        (server_out Fits Keeps Other behind terms (DoneAndSpent Done Spent) (Done terms) misdials known row k whose
+        true started.made goes.retired old new started.accepted
+        (subst (λ b. IsHanded b goes.retired old new) telling goes.handed) was.books.balance done was.sessions)
+
+    serves_waiting : Waits tells Becomes Are (MayLive Fits Keeps Sound) behind (DoneAndSpent Done Spent) k made
+        whose row row' old new next → Sessions row' new
+    serves_waiting waits =
+        let notes = notes_of whose.number old.noted in
+        let here = left (behind terms notes)
+        (IfSome_then next waits.lives (λ w lives. lives (behind terms notes) becomes)) in
+        subst (λ net. Sessions row' net) (sym waits.net_is)
+        (subst (λ r. Sessions r old) (sym waits.row_is)
+        (server_anew Fits Keeps Other behind terms (DoneAndSpent Done Spent) (Done terms) misdials known row k whose
+        true started.made made old started.accepted was.books.balance here was.sessions))
+
+    serves_further : Proceeds tells Becomes Are (MayLive Fits Keeps Sound) behind (DoneAndSpent Done Spent) k made
+        whose row row' old new next → Sessions row' new
+    serves_further goes =
+        let number : goes.noted.number ≡ whose.number = ap (λ (v : Whose). v.number) goes.whose_is in
+        let notes = notes_of goes.noted.number old.noted in
+        let becomes_so = subst (λ n. Becomes (behind terms (notes_of n old.noted))) (sym number) becomes in
+        let here = left (behind terms (notes ++ goes.noted ∷ []))
+        (IfSome_then next goes.follows (λ w lives. lives terms notes are becomes_so)) in
+        subst (λ r. Sessions r new) (sym goes.row_is)
+        (server_on Fits Keeps Other behind terms (DoneAndSpent Done Spent) (Done terms) misdials known row k made
+        goes.noted goes.reached old new (subst (λ v. IsStartedIn k v row) (sym goes.whose_is) started)
+        (subst (λ b. NotesAndDials b goes.noted goes.reached old new) telling goes.dials) was.books.balance here
+        was.sessions)
+
+    -- whatever came of the client, the server is served on
+    pub serves_followed : IsFollowed tells Becomes Are (MayLive Fits Keeps Sound) behind (DoneAndSpent Done Spent) k
+        made whose row row' old new next
+        → IsServing Fits Keeps Other behind Done Spent Note terms misdials known row' new
+    serves_followed followed = record {
+      books = books;
+      sessions = elim followed [
+        | inl nothing ↦ subst (λ net. Sessions row' net) (sym nothing.net_is)
+            (subst (λ r. Sessions r old) (sym nothing.row_is) was.sessions)
+        | inr (inl goes) ↦ serves_gone goes
+        | inr (inr (inl waits)) ↦ serves_waiting waits
+        | inr (inr (inr goes)) ↦ serves_further goes
+      ];
+    }
+
+-- whoever comes next may live in a place of these terms
+pub lives_followed : {W A C O : Type 0} (tells : Bool) (Becomes Are : A → Type 0) (Lives : A → W → Type 0)
+    (behind : A → List (Noted O) → A) (Done : A → Retired C O → Type 0) (k made : ℕ) (whose : Whose)
+    (row row' : List Connection) (old new : NetSeen C O) (next : Option W) (terms : A) → Are terms → Becomes terms
+    → IsFollowed tells Becomes Are Lives behind Done k made whose row row' old new next
+    → IfSome next (Lives terms)
+lives_followed tells Becomes Are Lives behind Done k made whose row row' old new next terms are becomes followed =
+    elim followed [
+      | inl nothing ↦ subst (λ (o : Option _). IfSome o (Lives terms)) (sym nothing.nobody) tt
+      | inr (inl goes) ↦ subst (λ (o : Option _). IfSome o (Lives terms)) (sym goes.nobody) tt
+      | inr (inr (inl waits)) ↦ IfSome_then next waits.lives (λ w lives. lives terms becomes)
+      | inr (inr (inr goes)) ↦ IfSome_then next goes.lives (λ w lives. lives terms are becomes)
+    ]

@@ -61,12 +61,3 @@ started_later Fits First Begun Sound moment k most old new keeps at = record {
     knows = λ young. keeps.desk.seat.known.stays (k, at.turn, at.left) (at.starts.knows young);
   };
 }
-
--- a desk of a thread of the server
-abbrev pub ServerDesk : (W A P V Q R U : Type 0)
-    → Ghosts (Group (Either (Place W) P) Q R (EitherTag A V) U) (EitherTag A V)
-    (Group (Either (Place W) P) Q R (EitherTag A V) U)
-    → Type 0
-ServerDesk W A P V Q R U d =
-    Desk (Group (Either (Place W) P) Q R (EitherTag A V) U) (EitherTag A V)
-    (Group (Either (Place W) P) Q R (EitherTag A V) U) d

@@ -1,14 +1,16 @@
 -- The lemmas of the server of a net, for its own proofs and those of the crates above.
 pub mod Balance
+pub mod Notes
+pub mod Books
+pub mod Lived
+pub mod Knowledge
 pub mod Desks
 pub mod Accounts
 pub mod Tenants
 pub mod Splits
-mod Ending
 mod Servers
 mod Leftovers
 mod Serves
-mod Askers
 mod NowStarted
 mod Cleared
 mod LookedAt
@@ -17,5 +19,7 @@ mod Tried
 mod Asked
 mod Later
 mod Settled
+mod Askers
+mod Ending
 mod Crossing
 mod AtPlaces

@@ -18,7 +18,8 @@ use Rattle.ts_serve.specs.declared.place.Place.{Place}
 use Rattle.ts_serve.specs.declared.whose.Whose.{Whose}
 use Rattle.ts_serve.specs.Places.{PlaceBegun, PlaceFits, PlaceSound}
 use Rattle.ts_serve.specs.Starting.{OthersStay, RestStays, IsNowStarted, IsStartedAt, WereStartedAt}
-use Rattle.ts_serve.proofs.Later.{ServerDesk, started_later}
+use Rattle.ts_serve.specs.Knowledge.{ServerDesk}
+use Rattle.ts_serve.proofs.Later.{started_later}
 
 -- no handler is started now whose connection is what it was
 pub none_now : (k : ℕ) (old new : List Connection) → get_or new k Free ≡ get_or old k Free → IsNowStarted k old new

@@ -17,6 +17,7 @@ use Rattle.ts_thread.specs.Tokens.{AllName}
 use Rattle.ts_thread.specs.Threads.{CanSplit}
 use Rattle.ts_thread.specs.declared.TheConstants.{MOST_THREADS}
 use Rattle.ts_txn.specs.Net.{IsFreshNet, NetSeen}
+use Rattle.ts_txn.specs.declared.retired.Noted.{Noted}
 use Rattle.ts_txn.specs.declared.retired.Retired.{Retired}
 use Rattle.ts_serve.specs.declared.connection.Connection.{Connection}
 use Rattle.ts_serve.specs.declared.connection.Connection.TheVariants.{Free}
@@ -28,7 +29,10 @@ use Rattle.ts_serve.specs.declared.acceptor.TheConstants.{PLACES}
 use Rattle.ts_serve.specs.Balance.{IsBalanced, HasAll, HasNoMore, KeepsBalance}
 use Rattle.ts_serve.specs.Acceptor.{HasShutCause, IsAccount, IsAcceptorOf, IsNotAsked, IsOver, KeepsAcceptor, LosesNobody}
 use Rattle.ts_serve.specs.Opening.{IsNewAcceptor, IsNewServer}
-use Rattle.ts_serve.specs.Served.{AreRetired, HasEndedFor, HasNotFailed, IsNotClosed, IsServed, served_by}
+use Rattle.ts_serve.specs.Knowledge.{DoneAndSpent, IsServing, KnownGroups}
+use Rattle.ts_serve.proofs.Books.{books_fresh}
+use Rattle.ts_serve.proofs.Knowledge.{server_fresh}
+use Rattle.ts_serve.specs.Served.{AreRetired, AreSessions, HasEndedFor, HasNotFailed, IsNotClosed, IsServed, served_by}
 use Rattle.ts_serve.proofs.Balance.{all_fresh, balance_fresh, no_more_fresh}
 
 -- what can be split among the most threads can be split among fewer
@@ -186,23 +190,50 @@ module _ {C O : Type 0} where
         ended = tt;
       }
 
+-- what the books and the sessions say of what was noted and handed over, whatever is still in the row
+pub sessions_of : {W T A P V C O : Type 0} (Fits : T → W → Type 0) (Keeps : A → T → Type 0) (Other : V → P → Type 0)
+    (behind : A → List (Noted O) → A) (Done Spent : A → Retired C O → Type 0) (Note : A → Noted O → Type 0)
+    {Q R U : Type 0} (terms : A) (known : KnownGroups W A P V Q R U) (row : List Connection) (old new : NetSeen C O)
+    → IsServing Fits Keeps Other behind Done Spent Note terms old.counts.misdials known row new
+    → AreSessions (Note terms) (λ notes. DoneAndSpent Done Spent (behind terms notes)) old new
+sessions_of Fits Keeps Other behind Done Spent Note terms known row old new was = record {
+  each = was.books.notes.each;
+  known = was.books.notes.known;
+  order = was.books.notes.order;
+  had = was.sessions.had;
+  dialed = elim was.books.notes.dialed [ inl few ↦ inl (omega (arith, few)) | inr end ↦ inr end ];
+}
+
 -- What the threads leave of a new acceptor and of a fresh net.
-module _ {C O A : Type 0} (tells : Bool) (Done : A → Retired C O → Type 0) (Are : A → Type 0) (most : ℕ)
+module _ {W T A P V C O : Type 0} (Fits : T → W → Type 0) (Keeps : A → T → Type 0) (Other : V → P → Type 0)
+    (behind : A → List (Noted O) → A) (Done Spent : A → Retired C O → Type 0) (Note : A → Noted O → Type 0)
+    (tells : Bool) {Q R U : Type 0} (Are : A → Type 0) (known known' : KnownGroups W A P V Q R U) (most : ℕ)
     (first last : Acceptor) (old now : NetSeen C O) (new : IsNewAcceptor most first) (fresh : IsFreshNet old)
-    (keeps : KeepsAcceptor tells Done Are first last old now) where
-  -- the balance at the end
-  books_now : tells ≡ true → (terms : A) → Are terms → IsBalanced (Done terms) old.counts.misdials last.row.items now
-  books_now telling terms are = keeps.balance telling terms old.counts.misdials are
-      (balance_first (Done terms) most first old new fresh)
+    (keeps : KeepsAcceptor Fits Keeps Other behind Done Spent Note tells Are known known' first last old now) where
+  -- how the server is served at the end
+  served_now : tells ≡ true → (terms : A) → Are terms
+      → IsServing Fits Keeps Other behind Done Spent Note terms old.counts.misdials known' last.row.items now
+  served_now telling terms are = keeps.serving telling terms are old.counts.misdials
+      (subst (λ row. IsServing Fits Keeps Other behind Done Spent Note terms old.counts.misdials known row old)
+      (sym new.row)
+      (record {
+        books = books_fresh (Done terms) (Note terms) old.counts.misdials PLACES old fresh refl;
+        sessions = server_fresh Fits Keeps Other behind terms (DoneAndSpent Done Spent) known PLACES old fresh;
+      }))
 
   pub whole_retired : tells ≡ true → (terms : A) → Are terms → AreRetired (Done terms) old now
   whole_retired telling terms are =
-      retired_of (Done terms) last.row.items old now (books_now telling terms are)
+      retired_of (Done terms) last.row.items old now (served_now telling terms are).books.balance
+
+  pub whole_sessions : tells ≡ true → (terms : A) → Are terms
+      → AreSessions (Note terms) (λ notes. DoneAndSpent Done Spent (behind terms notes)) old now
+  whole_sessions telling terms are = sessions_of Fits Keeps Other behind Done Spent Note terms known'
+      last.row.items old now (served_now telling terms are)
 
   pub whole_served : IsAcceptorOf last now → IsOver last → LosesNobody first last old now
       → IsServed (served_by last.listening) most old now
-  whole_served is over loses = served_whole most last old now (keeps.most ∙ new.most_is) is
-      (keeps.account old.counts (account_first most first old new)) over
+  whole_served is over loses = served_whole most last old now (keeps.account.most ∙ new.most_is) is
+      (keeps.account.account old.counts (account_first most first old new)) over
       (loses (all_first most first old new fresh))
 
   -- and where memory lacked, once the server is closed
@@ -211,10 +242,11 @@ module _ {C O A : Type 0} (tells : Bool) (Done : A → Retired C O → Type 0) (
       → AreRetired (Done terms) old after
   lacked_retired again after balance telling terms are =
       retired_of (Done terms) again old after
-      (balance telling terms are old.counts.misdials (books_now telling terms are))
+      (balance telling terms are old.counts.misdials (served_now telling terms are).books.balance)
 
   pub lacked_served : (again : List Connection) (after : NetSeen C O) → IsAcceptorOf last now
       → IsNotAsked now after → (HasNoMore last.row.items now → HasNoMore again after)
       → IsServed served.NoMemory most old after
-  lacked_served again after is same on = served_few most last again old now after (keeps.most ∙ new.most_is)
-      is (keeps.account old.counts (account_first most first old new)) same (on is.no_more)
+  lacked_served again after is same on = served_few most last again old now after
+      (keeps.account.most ∙ new.most_is) is (keeps.account.account old.counts (account_first most first old new))
+      same (on is.no_more)

@@ -18,7 +18,8 @@ use Rattle.ts_serve.specs.declared.connection.Connection.TheVariants.{Free}
 use Rattle.ts_serve.specs.declared.place.Place.{Place}
 use Rattle.ts_serve.specs.Places.{PlaceFits, PlaceSound}
 use Rattle.ts_serve.specs.Ready.{FirstAreLeft, IsLeft, IsSettledAt, StandsIn, serves_client}
-use Rattle.ts_serve.proofs.Later.{ServerDesk, started_later}
+use Rattle.ts_serve.specs.Knowledge.{ServerDesk}
+use Rattle.ts_serve.proofs.Later.{started_later}
 
 -- what stood in a list stands in it with more behind it, and so does the last one
 pub in_front : {A : Type 0} (x : A) (xs ys : List A) → IsIn x xs → IsIn x (xs ++ ys)

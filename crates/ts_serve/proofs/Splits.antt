@@ -1,6 +1,6 @@
 -- A desk that is split among threads, each of which takes some turns, and joined again; and what they tell.
 use Rattle.std.proofs.Common.{◌≡◌, ℕ, zero, suc, ◌+◌, ◌-◌, ◌<◌, inl, inr, List, Bool, true, false, Option}
-use Rattle.std.proofs.Common.{Err, refl, sym, subst, arith}
+use Rattle.std.proofs.Common.{Err, refl, sym, ap, subst, arith}
 use Rattle.std.specs.Prelude.{◌&&◌}
 use Rattle.ts_group.specs.declared.action.Named.{Named}
 use Rattle.ts_group.specs.declared.either.EitherTag.{EitherTag}
@@ -12,14 +12,21 @@ use Rattle.ts_queue.specs.declared.queue.EventQueue.{EventQueue}
 use Rattle.ts_slot.specs.declared.slots.Slots.{Slots}
 use Rattle.ts_thread.specs.declared.desk.Desk.{Desk}
 use Rattle.ts_thread.specs.Desks.{IsDeskOf, KeepsDesk, SplitsDesk, JoinsDesk}
-use Rattle.ts_thread.proofs.Joins.{desks_joined}
+use Rattle.ts_thread.proofs.Joins.{desks_joined, joined_more}
 use Rattle.ts_txn.specs.Net.{NetSeen}
 use Rattle.ts_txn.specs.declared.retired.Retired.{Retired}
 use Rattle.ts_serve.specs.declared.acceptor.Acceptor.{Acceptor}
 use Rattle.ts_serve.specs.Acceptor.{GoesOn, IsAcceptorOf, KeepsDeskSome, Serves}
 use Rattle.ts_serve.specs.Working.{CanWork, HasWorked, LacksInTurn, TakesTurn, TakesTurns, TellsWork}
 use Rattle.ts_serve.specs.Working.{TellWorks, WorkWhole}
-use Rattle.ts_serve.proofs.Accounts.{goes_at_desk}
+use Rattle.ts_serve.proofs.Accounts.{acceptor_more, acceptor_on, goes_at_desk}
+use Rattle.ts_serve.specs.Knowledge.{ServerDesk}
+use Rattle.ts_serve.specs.declared.place.Place.{Place}
+use Rattle.ts_group.specs.declared.either.Either.{Either}
+use Rattle.ts_slot.specs.Lists.{IsIn}
+use Rattle.ts_slot.specs.Words.{view}
+use Rattle.ts_thread.specs.Seats.{More}
+use Rattle.ts_txn.specs.declared.retired.Noted.{Noted}
 use Rattle.ts_serve.proofs.Desks.{desk_some, desk_on}
 
 module _ {X G T : Type 0} {d : Ghosts X G T} where
@@ -46,32 +53,57 @@ module _ {X G T : Type 0} {d : Ghosts X G T} where
             keeps.1 keeps_other.1 joins,
       )
 
-  -- the same, where the first thread went on at its part
-  pub goes_joined : {C O A : Type 0} (tells : Bool) (Done : A → Retired C O → Type 0) (Are : A → Type 0)
-      (slots : Slots X G T) (queue : EventQueue) (threads : ℕ)
-      (old kept other kept' other' new : Desk X G T d) (acceptor acceptor' : Acceptor) (before after : NetSeen C O)
+  -- what a part of a desk knows that was split off the desk knows, and once it is joined again the desk knows what
+  -- the part knows
+  split_knows : (old kept other : Desk X G T d) → SplitsDesk old kept other
+      → More (view old.seat).known (view other.seat).known
+  split_knows old kept other splits = record {
+    stays = λ e there. subst (IsIn e) (sym (ap (λ v. v.known) splits.other_seat)) there;
+  }
+
+  joined_knows : (kept other new : Desk X G T d) → JoinsDesk kept other new
+      → More (view other.seat).known (view new.seat).known
+  joined_knows kept other new joins = joined_more (view kept.seat) (view other.seat) (view new.seat) joins.seat
+
+module _ {W T A P V C O : Type 0} {Fits : T → W → Type 0} {Keeps : A → T → Type 0} {Other : V → P → Type 0}
+    {behind : A → List (Noted O) → A} {Done Spent : A → Retired C O → Type 0} {Note : A → Noted O → Type 0}
+    {tells : Bool} {Q R U : Type 0}
+    {d : Ghosts (Group (Either (Place W) P) Q R (EitherTag A V) U) (EitherTag A V)
+    (Group (Either (Place W) P) Q R (EitherTag A V) U)}
+    (slots : Slots (Group (Either (Place W) P) Q R (EitherTag A V) U) (EitherTag A V)
+    (Group (Either (Place W) P) Q R (EitherTag A V) U)) (queue : EventQueue) where
+  -- the first thread went on at its part
+  pub goes_joined : {Are : A → Type 0} (threads : ℕ) (old kept other kept' other' new : ServerDesk W A P V Q R U d)
+      (acceptor acceptor' : Acceptor) (before after : NetSeen C O)
       → CanWork slots queue threads old → SplitsDesk old kept other → KeepsDeskSome kept kept'
-      → GoesOn tells Done Are other other' acceptor acceptor' before after → JoinsDesk kept' other' new
-      → GoesOn tells Done Are old new acceptor acceptor' before after
-  goes_joined tells Done Are slots queue threads old kept other kept' other' new acceptor acceptor' before after works
-      splits keeps goes joins = record {
+      → GoesOn Fits Keeps Other behind Done Spent Note tells Are other other' acceptor acceptor' before after
+      → JoinsDesk kept' other' new
+      → GoesOn Fits Keeps Other behind Done Spent Note tells Are old new acceptor acceptor' before after
+  goes_joined threads old kept other kept' other' new acceptor acceptor' before after works splits keeps goes
+      joins = record {
         at_desk = joined_some slots queue threads old kept other kept' other' new works splits keeps goes.at_desk
             joins;
-        at_acceptor = goes.at_acceptor;
+        at_acceptor = acceptor_on (view old.seat).known (view other'.seat).known (view new.seat).known acceptor
+            acceptor' acceptor' before after after
+            (acceptor_on (view old.seat).known (view other.seat).known (view other'.seat).known acceptor acceptor
+            acceptor' before before after
+            (acceptor_more (view old.seat).known (view other.seat).known acceptor before
+            (split_knows old kept other splits)) goes.at_acceptor)
+            (acceptor_more (view other'.seat).known (view new.seat).known acceptor' after
+            (joined_knows kept' other' new joins));
       }
 
--- where memory lacked for a part of the desk, nothing was done
-pub serves_split : {C O A U B E X T : Type 0} {d : Ghosts X (EitherTag A U) T} (tells : Bool)
-    (Done : A → Retired C O → Type 0) (slots : Slots X (EitherTag A U) T) (queue : EventQueue)
-    (desk desk' : Desk X (EitherTag A U) T d) (acceptor : Acceptor) (net : NetSeen C O) (e : E)
-    → IsDeskOf slots queue desk' → IsAcceptorOf acceptor net → KeepsDesk desk desk' 0
-    → Serves {B = B} tells Done slots queue (Err e) desk desk' acceptor acceptor net net
-serves_split tells Done slots queue desk desk' acceptor net e ready is keeps = record {
-  at_desk = ready;
-  at_acceptor = is;
-  goes = goes_at_desk desk desk' acceptor net 0 keeps;
-  all = tt;
-}
+  -- where memory lacked for a part of the desk, nothing was done
+  pub serves_split : {B E : Type 0} (desk desk' : ServerDesk W A P V Q R U d) (acceptor : Acceptor)
+      (net : NetSeen C O) (e : E) → IsDeskOf slots queue desk' → IsAcceptorOf acceptor net → KeepsDesk desk desk' 0
+      → Serves Fits Keeps Other behind Done Spent Note tells {B = B} slots queue (Err e) desk desk' acceptor
+      acceptor net net
+  serves_split desk desk' acceptor net e ready is keeps = record {
+    at_desk = ready;
+    at_acceptor = is;
+    goes = goes_at_desk desk desk' acceptor net 0 keeps;
+    all = tt;
+  }
 
 -- ---- what threads tell of their turns
 

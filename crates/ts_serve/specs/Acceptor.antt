@@ -3,10 +3,12 @@
 use Rattle.std.specs.Prelude.{◌≡◌, ℕ, ◌<◌, ◌≤◌, Bool, true, false, List, length, OnOk, Result}
 use Rattle.std.specs.List.{sum_by}
 use Rattle.ts_link.specs.Counts.{Counted}
+use Rattle.ts_group.specs.declared.either.Either.{Either}
 use Rattle.ts_group.specs.declared.either.EitherTag.{EitherTag}
+use Rattle.ts_group.specs.declared.group.Group.{Group}
 use Rattle.ts_journal.specs.declared.slotted.Slotted.{Ghosts}
 use Rattle.ts_queue.specs.declared.queue.EventQueue.{EventQueue}
-use Rattle.ts_slot.specs.Words.{tags_of}
+use Rattle.ts_slot.specs.Words.{tags_of, view}
 use Rattle.ts_slot.specs.declared.slots.Slots.{Slots}
 use Rattle.ts_slot.specs.declared.view.SeatView.{SeatView}
 use Rattle.ts_thread.specs.declared.desk.Desk.{Desk}
@@ -14,12 +16,15 @@ use Rattle.ts_thread.specs.Desks.{IsDeskOf, KeepsDesk}
 use Rattle.ts_thread.specs.Seats.{KeepsSeat}
 use Rattle.ts_txn.specs.Net.{NetSeen}
 use Rattle.ts_txn.specs.declared.net.NetCounts.{NetCounts}
+use Rattle.ts_txn.specs.declared.retired.Noted.{Noted}
 use Rattle.ts_txn.specs.declared.retired.Retired.{Retired}
 use Rattle.ts_serve.specs.declared.acceptor.TheConstants.{PLACES}
 use Rattle.ts_serve.specs.declared.acceptor.Acceptor.{Acceptor}
 use Rattle.ts_serve.specs.declared.acceptor.Listening.{Listening}
 use Rattle.ts_serve.specs.declared.acceptor.Listening.TheVariants as listening
-use Rattle.ts_serve.specs.Balance.{IsBalanced, HasAll, HasNoMore, is_taken}
+use Rattle.ts_serve.specs.Balance.{HasAll, HasNoMore, is_taken}
+use Rattle.ts_serve.specs.Knowledge.{KeepsServing, KnownGroups, ServerDesk}
+use Rattle.ts_serve.specs.declared.place.Place.{Place}
 use Rattle.ts_serve.specs.Tenants.{IsPlace, IsPlaceOf}
 
 -- the first groups are places
@@ -69,25 +74,15 @@ pub record IsAcceptorOf {C O : Type 0} (acceptor : Acceptor) (net : NetSeen C O)
   pub came : acceptor.came ≡ net.given
   pub no_more : HasNoMore acceptor.row.items net
 
--- What a step of the first thread leaves of the acceptor and of the net. Where the net tells what it was handed,
--- the balance stays right, of places of any terms that are these.
-pub record KeepsAcceptor {C O A : Type 0} (tells : Bool) (Done : A → Retired C O → Type 0) (Are : A → Type 0)
-    (old new : Acceptor) (before after : NetSeen C O) : Type 0 where
+-- What a step of the first thread leaves of the acceptor's account of a net: its limit, and the causes.
+pub record KeepsAccount {C O : Type 0} (old new : Acceptor) (before after : NetSeen C O) : Type 0 where
   pub most : new.most ≡ old.most
   pub account : (first : NetCounts) → IsAccount first old before → IsAccount first new after
-  pub balance : tells ≡ true → (terms : A) (misdials : ℕ) → Are terms
-      → IsBalanced (Done terms) misdials old.row.items before → IsBalanced (Done terms) misdials new.row.items after
 
 -- the net was not asked for a client, nor for an origin
 pub record IsNotAsked {C O : Type 0} (old new : NetSeen C O) : Type 0 where
   pub given : new.given ≡ old.given
   pub counts : new.counts ≡ old.counts
-
--- the net was not asked for a client; it may have been asked for the origin of one
-pub record IsNotAccepting {C O : Type 0} (old new : NetSeen C O) : Type 0 where
-  pub given : new.given ≡ old.given
-  pub ends : new.counts.ends ≡ old.counts.ends
-  pub faults : new.counts.faults ≡ old.counts.faults
 
 -- no client is lost on the way: if each that was given is in the row or was handed over, each is so then
 abbrev pub LosesNobody : {C O : Type 0} → Acceptor → Acceptor → NetSeen C O → NetSeen C O → Type 0
@@ -101,24 +96,41 @@ KeepsSome old new = (most : ℕ) × KeepsSeat old new most
 abbrev pub KeepsDeskSome : {X G T : Type 0} {d : Ghosts X G T} → Desk X G T d → Desk X G T d → Type 0
 KeepsDeskSome old new = (most : ℕ) × KeepsDesk old new most
 
--- What a step of the first thread leaves of its desk, of the acceptor and of the net.
-pub record GoesOn {C O A X G T : Type 0} {d : Ghosts X G T} (tells : Bool) (Done : A → Retired C O → Type 0)
-    (Are : A → Type 0) (desk desk' : Desk X G T d) (acceptor acceptor' : Acceptor) (before after : NetSeen C O) :
-    Type 0 where
-  pub at_desk : KeepsDeskSome desk desk'
-  pub at_acceptor : KeepsAcceptor tells Done Are acceptor acceptor' before after
+module _ {W T A P V C O : Type 0} (Fits : T → W → Type 0) (Keeps : A → T → Type 0) (Other : V → P → Type 0)
+    (behind : A → List (Noted O) → A) (Done Spent : A → Retired C O → Type 0) (Note : A → Noted O → Type 0)
+    (tells : Bool) {Q R U : Type 0} where
+  -- What a step of the first thread, which knew these groups and knows those, leaves of the acceptor and of the
+  -- net. Where the net tells what it was handed, it is served on, under any terms that are these.
+  pub record KeepsAcceptor (Are : A → Type 0) (known known' : KnownGroups W A P V Q R U) (old new : Acceptor)
+      (before after : NetSeen C O) : Type 0 where
+    pub account : KeepsAccount old new before after
+    pub serving : KeepsServing Fits Keeps Other behind Done Spent Note tells Are known known' old.row.items
+        new.row.items before after
 
--- What a round, the rounds and the threads leave, whatever the answer: the desk is one of these slots and of this
--- queue, the acceptor that of the net, and the first thread went on; and where memory did not lack, no client was
--- lost on the way.
-pub record Serves {C O A U B E X T : Type 0} {d : Ghosts X (EitherTag A U) T} (tells : Bool)
-    (Done : A → Retired C O → Type 0) (slots : Slots X (EitherTag A U) T) (queue : EventQueue)
-    (result : Result B E) (desk desk' : Desk X (EitherTag A U) T d) (acceptor acceptor' : Acceptor)
-    (before after : NetSeen C O) : Type 0 where
-  pub at_desk : IsDeskOf slots queue desk'
-  pub at_acceptor : IsAcceptorOf acceptor' after
-  pub goes : GoesOn tells Done (HasPlacesOf (tags_of slots)) desk desk' acceptor acceptor' before after
-  pub all : OnOk result (LosesNobody acceptor acceptor' before after)
+  -- What a step of the first thread leaves of its desk, of the acceptor and of the net.
+  pub record GoesOn
+      {d : Ghosts (Group (Either (Place W) P) Q R (EitherTag A V) U) (EitherTag A V)
+      (Group (Either (Place W) P) Q R (EitherTag A V) U)} (Are : A → Type 0)
+      (desk desk' : ServerDesk W A P V Q R U d) (acceptor acceptor' : Acceptor) (before after : NetSeen C O) :
+      Type 0 where
+    pub at_desk : KeepsDeskSome desk desk'
+    pub at_acceptor : KeepsAcceptor Are (view desk.seat).known (view desk'.seat).known acceptor acceptor' before
+        after
+
+  -- What a round, the rounds and the threads leave, whatever the answer: the desk is one of these slots and of
+  -- this queue, the acceptor that of the net, and the first thread went on; and where memory did not lack, no
+  -- client was lost on the way.
+  pub record Serves {B E : Type 0}
+      {d : Ghosts (Group (Either (Place W) P) Q R (EitherTag A V) U) (EitherTag A V)
+      (Group (Either (Place W) P) Q R (EitherTag A V) U)}
+      (slots : Slots (Group (Either (Place W) P) Q R (EitherTag A V) U) (EitherTag A V)
+      (Group (Either (Place W) P) Q R (EitherTag A V) U)) (queue : EventQueue)
+      (result : Result B E) (desk desk' : ServerDesk W A P V Q R U d) (acceptor acceptor' : Acceptor)
+      (before after : NetSeen C O) : Type 0 where
+    pub at_desk : IsDeskOf slots queue desk'
+    pub at_acceptor : IsAcceptorOf acceptor' after
+    pub goes : GoesOn (HasPlacesOf (tags_of slots)) desk desk' acceptor acceptor' before after
+    pub all : OnOk result (LosesNobody acceptor acceptor' before after)
 
 -- nobody more is accepted, and what is left of each client was handed over
 pub record IsOver (acceptor : Acceptor) : Type 0 where

@@ -47,3 +47,9 @@ module _ {C O : Type 0} (clients : link.Ghosts C) (origins : link.Ghosts O) (bot
     pub ends : Counted (is_closed answer) old.counts.ends new.counts.ends
     pub faults : Counted (is_failed answer) old.counts.faults new.counts.faults
     pub given : new.given ≡ given_after old.given answer
+
+-- the net was not asked for a client; it may have been asked for the origin of one
+pub record IsNotAccepting {C O : Type 0} (old new : NetSeen C O) : Type 0 where
+  pub given : new.given ≡ old.given
+  pub ends : new.counts.ends ≡ old.counts.ends
+  pub faults : new.counts.faults ≡ old.counts.faults

@@ -1,6 +1,6 @@
 -- The balance of the acceptor: of each client that the net gave there is one connection in the row of places, or what
 -- is left of it was handed over, once.
-use Rattle.std.specs.Prelude.{◌≡◌, ℕ, ◌+◌, ◌≤◌, ◌⊎◌, cond, List, All, length, Bool, true, false, is_some, set}
+use Rattle.std.specs.Prelude.{◌≡◌, ℕ, ◌+◌, ◌≤◌, ◌⊎◌, cond, List, All, length, Bool, true, false, get_or, is_some, set}
 use Rattle.std.specs.List.{sum_by}
 use Rattle.ts_link.specs.Counts.{greatest}
 use Rattle.ts_slot.specs.Lists.{same}
@@ -28,9 +28,15 @@ abbrev pub lacks_origin : Connection → ℕ
 lacks_origin Free = 0
 lacks_origin (Accepted whose started made) = cond whose.has_origin 0 1
 
--- The same clients are in the row; which of their handlers were started may differ.
+-- The connection of a place is what it was, but that its handler may have been started or not.
+abbrev pub IsSameClient : Connection → Connection → Type 0
+IsSameClient Free new = new ≡ Free
+IsSameClient (Accepted whose started made) new = (started' : Bool) × (new ≡ Accepted whose started' made)
+
+-- The same clients are in the row, each in its place; which of their handlers were started may differ.
 pub record IsSameRow (old new : List Connection) : Type 0 where
   pub places : length new ≡ length old
+  pub clients : (k : ℕ) → IsSameClient (get_or old k Free) (get_or new k Free)
   pub numbers : (x : ℕ) → sum_by (has_number x) new ≡ sum_by (has_number x) old
   pub taken : sum_by is_taken new ≡ sum_by is_taken old
   pub origins : sum_by lacks_origin new ≡ sum_by lacks_origin old

@@ -7,6 +7,8 @@ pub mod Stepping
 pub mod TakingOut
 pub mod Arrivals
 pub mod Balance
+pub mod Notes
+pub mod Knowledge
 pub mod Acceptor
 pub mod Working
 pub mod Servers

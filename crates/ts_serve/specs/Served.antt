@@ -1,14 +1,16 @@
 -- What serving a net comes to: what the net was handed by its end, and why the end came.
-use Rattle.std.specs.Prelude.{⊤, ◌≡◌, ◌⊎◌, ℕ, ◌+◌, ◌≤◌, All}
+use Rattle.std.specs.Prelude.{⊤, ◌≡◌, ◌⊎◌, ℕ, ◌+◌, ◌≤◌, List, [], All}
 use Rattle.std.specs.List.{sum_by}
 use Rattle.ts_link.specs.Counts.{Rose, greatest}
 use Rattle.ts_txn.specs.Net.{NetSeen}
+use Rattle.ts_txn.specs.declared.retired.Noted.{Noted}
 use Rattle.ts_txn.specs.declared.retired.Retired.{Retired}
 use Rattle.ts_serve.specs.declared.acceptor.Served.{Served}
 use Rattle.ts_serve.specs.declared.acceptor.Served.TheVariants as served
 use Rattle.ts_serve.specs.declared.acceptor.Listening.{Listening}
 use Rattle.ts_serve.specs.declared.acceptor.Listening.TheVariants as listening
 use Rattle.ts_serve.specs.Balance.{had_number, is_given, lacked_origin}
+use Rattle.ts_serve.specs.Notes.{AreInOrder, HadSessions, noted_none, notes_of}
 
 -- how serving ended where the threads did what they were to, by whether the net gives more clients
 abbrev pub served_by : Listening → Served
@@ -26,6 +28,20 @@ module _ {C O : Type 0} where
     -- no more have no origin than dials were missed, unless that count is at its end
     pub dialed : (old.counts.misdials + sum_by lacked_origin new.retired ≤ new.counts.misdials)
         ⊎ (greatest ≤ new.counts.misdials)
+
+  -- What a net that tells was noted while it was served, and what the clients had that were handed over.
+  pub record AreSessions (Note : Noted O → Type 0) (Session : List (Noted O) → Retired C O → Type 0)
+      (old new : NetSeen C O) : Type 0 where
+    -- of each note holds what holds of one
+    pub each : All Note new.noted
+    -- only clients that were given have notes, in the order of their places, none skipped and none twice
+    pub known : (x : ℕ) → is_given new x ≡ 0 → notes_of x new.noted ≡ []
+    pub order : (x : ℕ) → AreInOrder 1 (notes_of x new.noted)
+    -- each client that was handed over had its session, behind its notes
+    pub had : HadSessions Session new
+    -- no more have no origin, handed over or noted, than dials were missed, unless that count is at its end
+    pub dialed : (old.counts.misdials + sum_by lacked_origin new.retired + sum_by noted_none new.noted
+        ≤ new.counts.misdials) ⊎ (greatest ≤ new.counts.misdials)
 
   -- no call of it failed, and none said that it is closed
   abbrev pub HasNotFailed : NetSeen C O → NetSeen C O → Type 0

@@ -2,15 +2,19 @@
 
 ghost use Rattle.std.specs.Prelude.{⊤, ◌≡◌, ◌<◌, false, length, get_or, IfOk, IfSome, MatchOption, OnOk};
 ghost use Rattle.ts_slot.specs.Words.{tags_of, view, IsSeatOf};
-ghost use Rattle.ts_thread.specs.Entering.{Finds};
+ghost use Rattle.ts_thread.specs.Entering.{FindsLived};
 ghost use Rattle.ts_thread.specs.Seats.{KeepsSeat, Leaves};
 ghost use Rattle.ts_serve.specs.declared.connection.Connection.TheVariants as Connection;
 ghost use Rattle.ts_serve.specs.declared.acceptor.Listening.TheVariants as Listening;
 ghost use Rattle.ts_serve.specs.Arrivals.{CameAs, given_after};
-ghost use Rattle.ts_serve.specs.Acceptor.{HasPlacesOf, IsAcceptorOf, IsOpenServer, KeepsAcceptor, KeepsSome};
-ghost use Rattle.ts_serve.specs.Acceptor.{LosesNobody};
+ghost use Rattle.ts_serve.specs.Acceptor.{HasPlacesOf, IsAcceptorOf, IsOpenServer, KeepsAcceptor, KeepsAccount};
+ghost use Rattle.ts_serve.specs.Acceptor.{KeepsSome, LosesNobody};
 ghost use Rattle.ts_serve.specs.Balance.{row_after};
-ghost use Rattle.ts_serve.specs.Tenants.{HoldsHandler, IsEmptyGroup, MayLiveAt, StandsAccepted};
+ghost use Rattle.ts_serve.specs.Knowledge.{KnowsPlace};
+ghost use Rattle.ts_serve.specs.Notes.{KeepsBooks};
+ghost use Rattle.ts_journal.specs.Machine.{HasLived};
+ghost use Rattle.ts_serve.specs.Tenants.{HoldsHandler, IsEmptyGroup, IsPlace, MayLive, MayLiveAt, StandsAccepted};
+ghost use Rattle.ts_txn.specs.Net.{IsHandedNothing};
 
 use crate::acceptor::{Acceptor, Listening, PLACES};
 use crate::arrival::{Arrival, receive};
@@ -22,7 +26,7 @@ use std::alloc::Global;
 use ts_group::{Either, Group, World};
 use ts_link::NoMemory;
 use ts_slot::{Seat, Slots, Turn};
-use ts_thread::{change_tenant, enter, leave_found};
+use ts_thread::{enter, leave_found, put_tenant};
 
 /// The group of an empty place, which has made so many turns elsewhere.
 pub fn empty_group<W: Tenant + Drop, P: World<Question = W::Question, Reply = W::Reply> + Drop>(
@@ -34,29 +38,48 @@ pub fn empty_group<W: Tenant + Drop, P: World<Question = W::Question, Reply = W:
     Group::make(alloc, Either::One(Place::Empty), turns)
 }
 
-/// Puts a handler into the place that the seat won last, in a group of its own. At want of memory the handler
-/// is dropped, and the place is left as it was found.
-pub fn put_handler<W: Tenant + Drop, P: World<Question = W::Question, Reply = W::Reply> + Drop>(
+/// The group of a turn has lived, as each has.
+pub fn open_turn<W: Tenant + Drop, P: World<Question = W::Question, Reply = W::Reply> + Drop>(
+    turn: &mut Turn<PlaceGroup<W, P>>,
+)
+    ensures same { turn.new ≡ turn.old }
+    ensures lived { HasLived turn.old.boxed.value.cx.log.base.made turn.old.boxed.value.cx.log.state }
+{
+    turn.value().journal().known();
+}
+
+/// Leaves a handler in the place that the seat won last, in a group of its own. Where there is none, or at want of
+/// memory, the group of an empty place is left there.
+pub fn put_next<W: Tenant + Drop, P: World<Question = W::Question, Reply = W::Reply> + Drop>(
     alloc: Global,
     slots: &Slots<PlaceGroup<W, P>>,
     seat: &mut Seat<PlaceGroup<W, P>>,
     turn: Turn<PlaceGroup<W, P>>,
-    handler: W,
+    next: Option<W>,
+    spare: PlaceGroup<W, P>,
 ) -> Result<(), NoMemory>
     requires seat { IsSeatOf slots.now seat.old }
-    requires finds { Finds (tags_of slots.now) (view seat.old) turn }
-    requires lives { MayLiveAt W.fits W.keeps W.sound (tags_of slots.now) turn.group handler }
+    requires finds { FindsLived (view seat.old) turn }
+    requires spare { IsEmptyGroup turn.number spare × IsPlace (tags_of slots.now) turn.group }
+    requires lives { IfSome next (MayLiveAt W.fits W.keeps W.sound (tags_of slots.now) turn.group) }
     ensures seat { IsSeatOf slots.now seat.new }
     ensures leaves { Leaves (view seat.old) (view seat.new) }
-    ensures holds { OnOk result (HoldsHandler turn.group turn.number handler (view seat.new).known) }
+    ensures holds { OnOk result (IfSome next (λ handler.
+        HoldsHandler turn.group turn.number handler (view seat.new).known)) }
+    ensures left { (terms : W.Terms) → IfSome next (MayLive W.fits W.keeps W.sound terms)
+        → KnowsPlace W.fits W.keeps P.fits terms (view seat.new).known turn.group turn.number }
 {
+    let Some(handler) = next else {
+        put_tenant(slots, seat, turn, spare);
+        return Ok(());
+    };
     match Group::make(alloc, Either::One(Place::Tenant(handler)), turn.number()) {
-        Ok(next) => {
-            change_tenant(slots, seat, turn, next);
+        Ok(group) => {
+            put_tenant(slots, seat, turn, group);
             Ok(())
         }
         Err(_) => {
-            leave_found(slots, seat, turn);
+            put_tenant(slots, seat, turn, spare);
             Err(NoMemory)
         }
     }
@@ -88,8 +111,10 @@ fn receive_at<N: ClientSource, W: Handler<N::Client, N::Origin>>(
     requires free { (k < PLACES) × (get_or acceptor.old.row.items k Connection.Free ≡ Connection.Free) }
     ensures acceptor { IsAcceptorOf acceptor.new (N.seen net.new) }
     ensures came { CameAs N.Client.Link N.Origin.Link N.Origin.Upstream.own acceptor.new.came result }
-    ensures keeps { KeepsAcceptor N.tells W.is_done (λ terms. ⊤)
-        acceptor.old acceptor.new (N.seen net.old) (N.seen net.new) }
+    ensures keeps { KeepsAccount acceptor.old acceptor.new (N.seen net.old) (N.seen net.new)
+        × IsHandedNothing (N.seen net.old) (N.seen net.new)
+        × KeepsBooks N.tells W.is_done W.is_note (λ terms. ⊤) acceptor.old.row.items (N.seen net.old)
+        acceptor.new.row.items (N.seen net.new) }
     ensures row { (acceptor.new.row.items ≡ row_after k acceptor.new.came made result acceptor.old.row.items)
         × (acceptor.new.came ≡ given_after acceptor.old.came result) }
     ensures all { LosesNobody acceptor.old acceptor.new (N.seen net.old) (N.seen net.new) }
@@ -132,8 +157,9 @@ pub fn accept_one<
     requires acceptor { IsAcceptorOf acceptor.old (N.seen net.old) }
     ensures seat { IsSeatOf slots.now seat.new × KeepsSeat (view seat.old) (view seat.new) 1 }
     ensures acceptor { IsAcceptorOf acceptor.new (N.seen net.new) }
-    ensures keeps { KeepsAcceptor N.tells W.is_done (HasPlacesOf (tags_of slots.now))
-        acceptor.old acceptor.new (N.seen net.old) (N.seen net.new) }
+    ensures keeps { KeepsAcceptor W.fits W.keeps P.fits W.behind W.is_done W.is_spent W.is_note N.tells
+        (HasPlacesOf (tags_of slots.now)) (view seat.old).known (view seat.new).known acceptor.old acceptor.new
+        (N.seen net.old) (N.seen net.new) }
     ensures all { LosesNobody acceptor.old acceptor.new (N.seen net.old) (N.seen net.new) }
     ensures stands { IfOk result (λ came. MatchOption came (acceptor.new.came ≡ acceptor.old.came)
         (StandsAccepted W.whose_of (view seat.new).known acceptor.new.row.items)) }
@@ -144,8 +170,12 @@ pub fn accept_one<
     let Some(k) = free_place(&acceptor.row) else {
         return Ok(None);
     };
-    let Some(turn) = enter(slots, seat, k) else {
+    let Some(mut turn) = enter(slots, seat, k) else {
         return Ok(None);
+    };
+    let Ok(spare) = empty_group(alloc, turn.number()) else {
+        leave_found(slots, seat, turn);
+        return Err(NoMemory);
     };
     let Arrival::Came { client, origin } = receive_at::<N, W>(net, acceptor, k, turn.number())
     else {
@@ -153,12 +183,17 @@ pub fn accept_one<
         return Ok(None);
     };
     let number = u64::from(acceptor.came);
-    let Ok(handler) = W::make(alloc, setting, number, client, origin) else {
-        leave_found(slots, seat, turn);
-        return Err(NoMemory);
-    };
-    put_handler(alloc, slots, seat, turn, handler)?;
-    Ok(Some(k))
+    open_turn(&mut turn);
+    match W::make(alloc, setting, number, client, origin) {
+        Ok(handler) => {
+            put_next(alloc, slots, seat, turn, Some(handler), spare)?;
+            Ok(Some(k))
+        }
+        Err(_) => {
+            put_next(alloc, slots, seat, turn, None, spare)?;
+            Err(NoMemory)
+        }
+    }
 }
 
 /// Accepts clients until none comes, none more may come, or no place is free for one. Answers whether one came.
@@ -179,8 +214,9 @@ pub fn accept_all<
     requires acceptor { IsAcceptorOf acceptor.old (N.seen net.old) }
     ensures seat { IsSeatOf slots.now seat.new × KeepsSome (view seat.old) (view seat.new) }
     ensures acceptor { IsAcceptorOf acceptor.new (N.seen net.new) }
-    ensures keeps { KeepsAcceptor N.tells W.is_done (HasPlacesOf (tags_of slots.now))
-        acceptor.old acceptor.new (N.seen net.old) (N.seen net.new) }
+    ensures keeps { KeepsAcceptor W.fits W.keeps P.fits W.behind W.is_done W.is_spent W.is_note N.tells
+        (HasPlacesOf (tags_of slots.now)) (view seat.old).known (view seat.new).known acceptor.old acceptor.new
+        (N.seen net.old) (N.seen net.new) }
     ensures all { LosesNobody acceptor.old acceptor.new (N.seen net.old) (N.seen net.new) }
     ensures came { IfOk result (λ came. came ≡ false → acceptor.new.came ≡ acceptor.old.came) }
 {

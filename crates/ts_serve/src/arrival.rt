@@ -1,9 +1,10 @@
 //! How a client is received, and its origin dialed.
 
-ghost use Rattle.std.specs.Prelude.{◌≡◌, ◌+◌, ◌<◌, ℕ, true, length, get_or};
+ghost use Rattle.std.specs.Prelude.{⊤, ◌≡◌, ◌+◌, ◌<◌, length, get_or};
 ghost use Rattle.ts_serve.specs.declared.connection.Connection.TheVariants as Connection;
 ghost use Rattle.ts_serve.specs.Arrivals.{Receives};
-ghost use Rattle.ts_serve.specs.Balance.{IsBalanced, HasAll, HasNoMore, row_after};
+ghost use Rattle.ts_serve.specs.Balance.{HasAll, HasNoMore, row_after};
+ghost use Rattle.ts_serve.specs.Notes.{KeepsBooks};
 ghost use Rattle.ts_serve.specs.Whose.{first_of};
 
 use crate::connection::{Connection, add_connection};
@@ -50,9 +51,8 @@ pub fn receive<N: ClientSource, W: Handler<N::Client, N::Origin>>(
     ensures receives { Receives N.Client.Link N.Origin.Link N.Origin.Upstream.own
         number result (N.seen net.old) (N.seen net.new) }
     ensures row { row.new.items ≡ row_after k number made result row.old.items }
-    ensures balance { N.tells ≡ true → (terms : W.Terms) (misdials : ℕ)
-        → IsBalanced (W.is_done terms) misdials row.old.items (N.seen net.old)
-        → IsBalanced (W.is_done terms) misdials row.new.items (N.seen net.new) }
+    ensures books { KeepsBooks N.tells W.is_done W.is_note (λ terms. ⊤) row.old.items (N.seen net.old)
+        row.new.items (N.seen net.new) }
     ensures all { HasAll row.old.items (N.seen net.old) → HasAll row.new.items (N.seen net.new) }
     ensures no_more { HasNoMore row.old.items (N.seen net.old) → HasNoMore row.new.items (N.seen net.new) }
 {

@@ -1,5 +1,5 @@
-//! How places are cleared that nobody else has: what is left of each handler that has ended is handed to the
-//! net.
+//! How places are cleared that nobody else has: what is left of each handler that has ended, or waits, is
+//! handed to the net.
 
 ghost use Rattle.std.specs.Prelude.{◌≡◌, ◌<◌, ℕ, length, OnOk};
 ghost use Rattle.ts_serve.specs.Balance.{HasAll, HasNoMore, KeepsBalance};
@@ -11,16 +11,17 @@ ghost use Rattle.ts_serve.specs.Tenants.{FitPlaces, FitsTerms};
 use crate::acceptor::PLACES;
 use crate::connection::Connection;
 use crate::place::PlaceGroup;
-use crate::retire::{hand_over, has_ended, is_running};
+use crate::retire::{hand_over, is_running, may_hand_over};
 use crate::source::ClientSource;
 use crate::tenant::Handler;
 use std::collections::VecDeque;
 use ts_group::World;
 use ts_link::NoMemory;
 
-/// Hands what is left of the client in the place k to the net, if its handler has ended, and the place is free
-/// then. The group is that of the place. At want of memory, or where the handler has not ended, it is dropped.
-/// (That another than its handler lives there does not come, and is answered as want of memory.)
+/// Hands what is left of the client in the place k to the net, if its handler has ended or may wait for it
+/// without end, and the place is free then. The group is that of the place. At want of memory, or where the
+/// handler runs still, it is dropped. (That another than its handler lives there does not come, and is
+/// answered as want of memory.)
 pub fn clear_place<
     N: ClientSource,
     W: Handler<N::Client, N::Origin> + Drop,
@@ -34,14 +35,14 @@ pub fn clear_place<
     ensures no_more { HasNoMore row.old.items (N.seen net.old) → HasNoMore row.new.items (N.seen net.new) }
     ensures net { IsNotAsked (N.seen net.old) (N.seen net.new) }
     ensures others { OthersStay k row.old.items row.new.items }
-    ensures cleared { OnOk result (IsCleared W.whose_of W.is_ended k group
+    ensures cleared { OnOk result (IsCleared W.whose_of W.is_ended W.may_wait k group
         row.old.items row.new.items) }
     ensures all { OnOk result (HasAll row.old.items (N.seen net.old) → HasAll row.new.items (N.seen net.new)) }
 {
     let Connection::Accepted { whose, made, .. } = row[k as usize] else {
         return Ok(());
     };
-    if has_ended(&group, whose, made) {
+    if may_hand_over(&group, whose, made) {
         hand_over(net, whose, group)?;
         row[k as usize] = Connection::Free;
         return Ok(());
@@ -52,9 +53,9 @@ pub fn clear_place<
     Ok(())
 }
 
-/// Hands what is left of each client that is in the row and whose handler has ended to the net. The groups are
-/// those of a server in their order, which nobody else has; they are dropped. Where memory lacks for what is
-/// left of one, that is dropped too, and the answer says so.
+/// Hands what is left of each client that is in the row, and whose handler has ended or may wait for it
+/// without end, to the net. The groups are those of a server in their order, which nobody else has; they are
+/// dropped. Where memory lacks for what is left of one, that is dropped too, and the answer says so.
 pub fn clear_places<
     N: ClientSource,
     W: Handler<N::Client, N::Origin> + Drop,
@@ -67,7 +68,7 @@ pub fn clear_places<
         row.old.items (N.seen net.old) row.new.items (N.seen net.new) }
     ensures no_more { HasNoMore row.old.items (N.seen net.old) → HasNoMore row.new.items (N.seen net.new) }
     ensures net { IsNotAsked (N.seen net.old) (N.seen net.new) }
-    ensures cleared { OnOk result (AreCleared W.whose_of W.is_ended groups.items
+    ensures cleared { OnOk result (AreCleared W.whose_of W.is_ended W.may_wait groups.items
         row.old.items row.new.items) }
     ensures all { OnOk result (HasAll row.old.items (N.seen net.old) → HasAll row.new.items (N.seen net.new)) }
 {

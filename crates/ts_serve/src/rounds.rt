@@ -68,8 +68,9 @@ fn tend<
     requires server { IsOpenServer W.is_setting W.are_terms setting.now (tags_of service.now.shared.slots.now) }
     requires here { IsDeskOf service.now.shared.slots.now service.now.shared.queue.now desk.old
         × IsAcceptorOf acceptor.old (N.seen net.old) }
-    ensures { Serves N.tells W.is_done service.now.shared.slots.now service.now.shared.queue.now result
-        desk.old desk.new acceptor.old acceptor.new (N.seen net.old) (N.seen net.new) }
+    ensures { Serves W.fits W.keeps P.fits W.behind W.is_done W.is_spent W.is_note N.tells
+        service.now.shared.slots.now service.now.shared.queue.now result desk.old desk.new
+        acceptor.old acceptor.new (N.seen net.old) (N.seen net.new) }
 {
     let slots = service.shared.slots;
     let came = accept_all(service.alloc, setting, net, slots, &mut desk.seat, acceptor)?;
@@ -100,8 +101,9 @@ fn take_round<
         P.fits P.only_asked P.may_ask P.right P.answers (tags_of service.now.shared.slots.now) }
     requires here { IsDeskOf service.now.shared.slots.now service.now.shared.queue.now desk.old
         × IsAcceptorOf acceptor.old (N.seen net.old) }
-    ensures { Serves N.tells W.is_done service.now.shared.slots.now service.now.shared.queue.now result
-        desk.old desk.new acceptor.old acceptor.new (N.seen net.old) (N.seen net.new) }
+    ensures { Serves W.fits W.keeps P.fits W.behind W.is_done W.is_spent W.is_note N.tells
+        service.now.shared.slots.now service.now.shared.queue.now result desk.old desk.new
+        acceptor.old acceptor.new (N.seen net.old) (N.seen net.new) }
 {
     let came = tend(service, setting, net, desk, acceptor, moment)?;
     let Did::Idle = turn_desk(&service.shared, FIRST, desk, moment)? else {
@@ -152,8 +154,9 @@ fn go_round<
         P.fits P.only_asked P.may_ask P.right P.answers (tags_of service.now.shared.slots.now) }
     requires here { IsDeskOf service.now.shared.slots.now service.now.shared.queue.now desk.old
         × IsAcceptorOf acceptor.old (N.seen net.old) }
-    ensures { Serves N.tells W.is_done service.now.shared.slots.now service.now.shared.queue.now result
-        desk.old desk.new acceptor.old acceptor.new (N.seen net.old) (N.seen net.new) }
+    ensures { Serves W.fits W.keeps P.fits W.behind W.is_done W.is_spent W.is_note N.tells
+        service.now.shared.slots.now service.now.shared.queue.now result desk.old desk.new
+        acceptor.old acceptor.new (N.seen net.old) (N.seen net.new) }
 {
     let moment = service.clock.now();
     let is_idle = take_round(service, setting, net, desk, acceptor, moment)?;
@@ -185,8 +188,9 @@ pub fn serve_rounds<
         P.fits P.only_asked P.may_ask P.right P.answers (tags_of service.now.shared.slots.now) }
     requires here { IsDeskOf service.now.shared.slots.now service.now.shared.queue.now desk.old
         × IsAcceptorOf acceptor.old (N.seen net.old) }
-    ensures serves { Serves N.tells W.is_done service.now.shared.slots.now service.now.shared.queue.now result
-        desk.old desk.new acceptor.old acceptor.new (N.seen net.old) (N.seen net.new) }
+    ensures serves { Serves W.fits W.keeps P.fits W.behind W.is_done W.is_spent W.is_note N.tells
+        service.now.shared.slots.now service.now.shared.queue.now result desk.old desk.new
+        acceptor.old acceptor.new (N.seen net.old) (N.seen net.new) }
     ensures over { OnOk result (IsOver acceptor.new) }
 {
     let mut ready = Ready::new(service.alloc);

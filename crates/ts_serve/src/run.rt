@@ -1,9 +1,11 @@
 //! The whole of serving a net: its server is opened, run by event threads, and closed.
 
-ghost use Rattle.std.specs.Prelude.{◌≡◌, ◌<◌, ◌≤◌, true};
+ghost use Rattle.std.specs.Prelude.{◌≡◌, ◌≢◌, ◌<◌, ◌≤◌, true};
 ghost use Rattle.ts_thread.specs.declared.TheConstants.{MOST_THREADS};
 ghost use Rattle.ts_txn.specs.Net.{IsFreshNet};
-ghost use Rattle.ts_serve.specs.Served.{AreRetired, IsServed, served_by};
+ghost use Rattle.ts_serve.specs.Knowledge.{DoneAndSpent};
+ghost use Rattle.ts_serve.specs.declared.acceptor.Served.TheVariants as served;
+ghost use Rattle.ts_serve.specs.Served.{AreRetired, AreSessions, IsServed, served_by};
 ghost use Rattle.ts_serve.specs.Servers.{CanAskInServer, CanStandBeside, server_tags};
 
 use crate::acceptor::{Acceptor, Listening, Served};
@@ -66,6 +68,10 @@ where
     requires net { IsFreshNet (N.seen net.old) }
     ensures retired { N.tells ≡ true → (terms : W.Terms) → W.are_terms setting.now terms
         → AreRetired (W.is_done terms) (N.seen net.old) (N.seen net.new) }
+    ensures sessions { N.tells ≡ true → result ≢ served.NoMemory → (terms : W.Terms)
+        → W.are_terms setting.now terms
+        → AreSessions (W.is_note terms) (λ notes. DoneAndSpent W.is_done W.is_spent (W.behind terms notes))
+        (N.seen net.old) (N.seen net.new) }
     ensures served { IsServed result most (N.seen net.old) (N.seen net.new) }
 {
     let Ok(acceptor) = new_acceptor(host.alloc, most) else {

@@ -4,10 +4,11 @@
 ghost use Rattle.std.specs.Prelude.{◌≡◌, ◌+◌, ◌≤◌, ◌++◌, [], All, Ok, length, map, replicate, IfOk};
 ghost use Rattle.ts_group.specs.declared.either.EitherTag.TheVariants as EitherTag;
 ghost use Rattle.ts_slot.specs.Limits.{most_groups, whole_share};
-ghost use Rattle.ts_slot.specs.Words.{tags_of, view};
+ghost use Rattle.ts_slot.specs.Words.{AreLast, IsSeatOf, tags_of, view};
 ghost use Rattle.ts_thread.specs.Desks.{IsDeskOf};
 ghost use Rattle.ts_serve.specs.Acceptor.{HasPlacesOf, IsNotAsked, IsServerOf};
 ghost use Rattle.ts_serve.specs.Balance.{HasNoMore, KeepsBalance};
+ghost use Rattle.ts_serve.specs.Leftover.{CanGoOn};
 ghost use Rattle.ts_serve.specs.Opening.{AreNewGroups, IsNewAcceptor, IsNewServer};
 ghost use Rattle.ts_serve.specs.Servers.{CanAskInServer, CanStandBeside, StandsBeside, server_tags};
 ghost use Rattle.ts_serve.specs.TakingOut.{IsClosedOver};
@@ -28,7 +29,7 @@ use ts_exchange::Tagged;
 use ts_group::{Either, EitherTag, Group, World};
 use ts_link::{Clock, Link, NoMemory};
 use ts_queue::EventQueue;
-use ts_slot::{Slots, Slotted};
+use ts_slot::{Seat, Slots, Slotted};
 use ts_thread::{Desk, Unfinished};
 use ts_txn::Net;
 use ts_upstream::Upstream;
@@ -165,10 +166,35 @@ fn found_whole<T: Drop>(
     Ok(found)
 }
 
-/// Closes a server that nobody else uses: what is pending in its groups is handled, and what is left of each
-/// client that is accepted and whose handler has ended is handed to the net. Answers its groups as they were
-/// found then, for contracts alone, which takes no memory. Where memory lacked, or a group had no turn left,
-/// the rest is dropped.
+// Closes the slots of a server: its groups as they stood last, which go on as their tags allow.
+fn close_slots<W: Tenant + Drop, P: World<Question = W::Question, Reply = W::Reply> + Drop>(
+    alloc: Global,
+    slots: Slots<PlaceGroup<W, P>>,
+    seat: Seat<PlaceGroup<W, P>>,
+) -> Result<Vec<PlaceGroup<W, P>>, NoMemory>
+where
+    W::Terms: Drop,
+    P::Tag: Drop,
+    requires seat { IsSeatOf slots seat }
+    requires whole { ((view seat).share ≡ whole_share) × ((view seat).held ≡ []) }
+    requires asks { CanAskInServer W.fits W.keeps W.may_ask W.right W.answers
+        P.fits P.only_asked P.may_ask P.right P.answers (tags_of slots) }
+    ensures count { IfOk result (λ groups. length groups.items ≡ length (tags_of slots)) }
+    ensures last { IfOk result (λ groups. AreLast slots seat groups.items) }
+    ensures can { IfOk result (λ groups. CanGoOn W.fits W.keeps W.sound P.fits P.sound P.only_asked P.is_first
+        W.may_ask W.right W.answers P.may_ask P.right P.answers groups.items) }
+{
+    let Ok(groups) = slots.close(alloc, seat) else {
+        return Err(NoMemory);
+    };
+    Ok(groups)
+}
+
+/// Closes a server that nobody else uses: what is pending in its groups is handled, but where handlers may
+/// wait for their clients without end, and what is left of each client that is accepted, and whose handler has
+/// ended or may wait, is handed to the net. Answers its groups as they were found then, for contracts alone,
+/// which takes no memory. Where memory lacked, or a group had no turn left, the rest is dropped.
+#[tactic(auto, using(crate::proofs::Leftovers::goes_same))]
 pub fn close_server<
     N: Net,
     W: Handler<N::Client, N::Origin> + Drop,
@@ -194,7 +220,7 @@ where
         row.old.items (N.seen net.old) row.new.items (N.seen net.new) }
     ensures no_more { HasNoMore row.old.items (N.seen net.old) → HasNoMore row.new.items (N.seen net.new) }
     ensures net { IsNotAsked (N.seen net.old) (N.seen net.new) }
-    ensures closed { IfOk result (λ found. IsClosedOver W.whose_of W.is_ended
+    ensures closed { IfOk result (λ found. IsClosedOver W.whose_of W.is_ended W.may_wait
         (tags_of server.slots) found.value.items row.old.items row.new.items) }
 {
     let Server {
@@ -203,10 +229,12 @@ where
         desk,
     } = server;
     let (seat, _pass) = desk.into_parts();
-    let Ok(mut groups) = slots.close(host.alloc, seat) else {
-        return Err(NoMemory);
-    };
-    let handled = finish_left(host.rt, host.clock, groups.as_mut_slice());
+    let mut groups = close_slots::<W, P>(host.alloc, slots, seat)?;
+    let handled = finish_left::<N::Client, N::Origin, W, P, C, R>(
+        host.rt,
+        host.clock,
+        groups.as_mut_slice(),
+    );
     let found = Snapshot::of(&groups);
     let cleared = clear_places(net, row, groups);
     found_whole(found, handled, cleared)

@@ -1,38 +1,42 @@
 //! How the first thread goes on with a client whose handler has ended: what is left of it is handed to the net, or
 //! another handler stands in its place.
 
-ghost use Rattle.std.specs.Prelude.{◌≡◌, ◌<◌, ◌↔◌, ℕ, true, false, length, is_some, set};
+ghost use Rattle.std.specs.Prelude.{◌≡◌, ◌<◌, ◌↔◌, true, false, length, is_some, set};
 ghost use Rattle.std.specs.Prelude.{IfOk, IfSome, MatchOption, OnOk, OnErr};
 ghost use Rattle.ts_slot.specs.Words.{tags_of, view, IsSeatOf};
-ghost use Rattle.ts_thread.specs.Entering.{Finds, FindsLived};
+ghost use Rattle.ts_thread.specs.Entering.{Finds};
 ghost use Rattle.ts_thread.specs.Seats.{KeepsSeat, Leaves};
 ghost use Rattle.ts_txn.specs.Net.{IsNextOrigin};
 ghost use Rattle.ts_serve.specs.Acceptor.{IsOpenServer};
-ghost use Rattle.ts_serve.specs.Balance.{HasAll, IsBalanced};
+ghost use Rattle.ts_group.specs.Either.{EitherFits};
+ghost use Rattle.ts_serve.specs.Balance.{HasAll, HasNoMore};
+ghost use Rattle.ts_serve.specs.Knowledge.{DoneAndSpent, KeepsServing, ServesOn};
 ghost use Rattle.ts_serve.specs.Leaving.{BecomesOf, LeavesWhose};
-ghost use Rattle.ts_serve.specs.Stepping.{ChangesAt, ComesTo, IsNextIn, IsOpened, IsStartedIn, KeepsGiven};
+ghost use Rattle.ts_serve.specs.Notes.{KeepsBooks, NotesAndDials, notes_of};
+ghost use Rattle.ts_serve.specs.Places.{PlaceFits};
+ghost use Rattle.ts_serve.specs.Stepping.{ChangesAt, ComesTo, IsFollowed, IsNextIn, IsOpened, IsStartedIn, KeepsGiven};
+ghost use Rattle.ts_serve.specs.Stepping.{next_in};
 ghost use Rattle.ts_serve.specs.TakingOut.{EntersEnded, HasEndedAt, IsLeftThere, IsLookedAt};
-ghost use Rattle.ts_serve.specs.Tenants.{FitsTerms, HasEndedIn, HoldsHandler, IsEmptyGroup, IsPlace, IsPlaceOf};
-ghost use Rattle.ts_serve.specs.Tenants.{MayLive, MayLiveAt};
+ghost use Rattle.ts_serve.specs.Tenants.{FitsTerms, HasEndedIn, IsEmptyGroup, IsPlaceOf, MayLive};
 ghost use Rattle.ts_serve.specs.Whose.{next_of, noted_of};
 ghost use Rattle.ts_serve.specs.declared.connection.Connection.TheVariants as connection;
 ghost use Rattle.ts_serve.specs.declared.acceptor.TheConstants.{PLACES};
 ghost use Rattle.ts_serve.specs.declared.whose.TheConstants.{LAST_PLACE};
 
-use crate::accept::empty_group;
+use crate::accept::{empty_group, open_turn, put_next};
 use crate::connection::{Connection, add_connection};
 use crate::leaving::Leaving;
 use crate::place::{Place, PlaceGroup};
 use crate::retire::has_ended;
 use crate::source::ClientSource;
-use crate::tenant::{Handler, Tenant};
+use crate::tenant::Handler;
 use crate::whose::Whose;
 use std::alloc::Global;
-use ts_group::{Either, Group, World};
+use ts_group::{Either, World};
 use ts_journal::Journal;
 use ts_link::{Link, NoMemory};
 use ts_slot::{Seat, Slots, Turn};
-use ts_thread::{enter, leave_found, put_tenant, take_tenant};
+use ts_thread::{enter, leave_found, take_tenant};
 use ts_txn::{Dialed, Noted};
 use ts_upstream::Upstream;
 
@@ -102,8 +106,8 @@ fn enter_ended<
     ensures found { IfOk result (λ found. MatchOption found
         (IsLeftThere W.sound W.whose_of W.is_ended whose made k (view seat.old) (view seat.new)
         × KeepsSeat (view seat.old) (view seat.new) 1)
-        (EntersEnded W.sound W.whose_of W.is_ended (tags_of slots.now) whose made k
-        (view seat.old) (view seat.new))) }
+        (EntersEnded W.sound W.whose_of W.is_ended (EitherFits (PlaceFits W.fits W.keeps) P.fits)
+        (tags_of slots.now) whose made k (view seat.old) (view seat.new))) }
     ensures err { OnErr result (KeepsSeat (view seat.old) (view seat.new) 1) }
 {
     let Some(mut turn) = enter(slots, seat, k) else {
@@ -117,6 +121,7 @@ fn enter_ended<
         leave_found(slots, seat, turn);
         return Ok(None);
     }
+    open_turn(&mut turn);
     Ok(Some(turn))
 }
 
@@ -171,13 +176,14 @@ pub fn note_and_dial<N: ClientSource, W: Handler<N::Client, N::Origin>>(
 ) -> Result<Option<N::Origin>, NoMemory>
     requires row { IsStartedIn k (noted_of noted) row.old.items }
     requires place { noted.place < LAST_PLACE }
+    ensures net { IfOk result (λ origin. NotesAndDials N.tells noted (is_some origin)
+        (N.seen net.old) (N.seen net.new)) }
     ensures row { IfOk result (λ origin. row.new.items
         ≡ set row.old.items k (connection.Accepted (next_of noted (is_some origin)) false made)) }
-    ensures balance { OnOk result (N.tells ≡ true → (terms : W.Terms) (misdials : ℕ)
-        → IsBalanced (W.is_done terms) misdials row.old.items (N.seen net.old)
-        → IsBalanced (W.is_done terms) misdials row.new.items (N.seen net.new)) }
-    ensures all { OnOk result (HasAll row.old.items (N.seen net.old) → HasAll row.new.items (N.seen net.new)) }
-    ensures net { OnOk result (KeepsGiven row.old.items row.new.items (N.seen net.old) (N.seen net.new)) }
+    ensures books { OnOk result (KeepsBooks N.tells W.is_done W.is_note (λ terms. W.is_note terms noted)
+        row.old.items (N.seen net.old) row.new.items (N.seen net.new)) }
+    ensures all { OnOk result ((HasAll row.old.items (N.seen net.old) → HasAll row.new.items (N.seen net.new))
+        × (HasNoMore row.old.items (N.seen net.old) → HasNoMore row.new.items (N.seen net.new))) }
     ensures origin { IfOk result (λ origin. IfSome origin
         (IsNextOrigin N.Origin.Link N.Origin.Upstream.own)) }
     ensures err { OnErr result ((N.seen net.new ≡ N.seen net.old) × (row.new ≡ row.old)) }
@@ -222,16 +228,17 @@ fn follow<N: ClientSource, W: Handler<N::Client, N::Origin> + Drop>(
         (MayLive W.fits W.keeps W.sound terms) leaving }
     ensures row { ChangesAt k row.old.items row.new.items }
     ensures next { IfOk result (IsNextIn W.whose_of k made whose row.old.items row.new.items) }
-    ensures lives { IfOk result (λ next. IfSome next (λ w. (terms : W.Terms) → W.are_terms setting.now terms
-        → BecomesOf (W.is_done terms) (W.is_spent terms) (W.is_note terms) (W.is_next terms)
-        (MayLive W.fits W.keeps W.sound terms) leaving → MayLive W.fits W.keeps W.sound terms w)) }
-    ensures balance { N.tells ≡ true → (terms : W.Terms) (misdials : ℕ)
-        → BecomesOf (W.is_done terms) (W.is_spent terms) (W.is_note terms) (W.is_next terms)
-        (MayLive W.fits W.keeps W.sound terms) leaving
-        → IsBalanced (W.is_done terms) misdials row.old.items (N.seen net.old)
-        → IsBalanced (W.is_done terms) misdials row.new.items (N.seen net.new) }
+    ensures books { KeepsBooks N.tells W.is_done W.is_note
+        (λ terms. BecomesOf (W.is_done terms) (W.is_spent terms) (W.is_note terms) (W.is_next terms)
+        (MayLive W.fits W.keeps W.sound terms) leaving)
+        row.old.items (N.seen net.old) row.new.items (N.seen net.new) }
     ensures all { OnOk result (HasAll row.old.items (N.seen net.old) → HasAll row.new.items (N.seen net.new)) }
     ensures net { KeepsGiven row.old.items row.new.items (N.seen net.old) (N.seen net.new) }
+    ensures comes { IsFollowed N.tells
+        (λ terms. BecomesOf (W.is_done terms) (W.is_spent terms) (W.is_note terms) (W.is_next terms)
+        (MayLive W.fits W.keeps W.sound terms) leaving)
+        (W.are_terms setting.now) (MayLive W.fits W.keeps W.sound) W.behind (DoneAndSpent W.is_done W.is_spent)
+        k made whose row.old.items row.new.items (N.seen net.old) (N.seen net.new) (next_in result) }
 {
     match leaving {
         Leaving::Retires(retired) => {
@@ -247,41 +254,6 @@ fn follow<N: ClientSource, W: Handler<N::Client, N::Origin> + Drop>(
             let origin = note_and_dial::<N, W>(net, row, k, made, noted)?;
             let handler = W::make_next(alloc, setting, next, origin)?;
             Ok(Some(handler))
-        }
-    }
-}
-
-// Leaves the next handler in the place that the seat won last, in a group of its own. Where none comes, or at want
-// of memory, the group of an empty place is left there.
-fn put_next<W: Tenant + Drop, P: World<Question = W::Question, Reply = W::Reply> + Drop>(
-    alloc: Global,
-    slots: &Slots<PlaceGroup<W, P>>,
-    seat: &mut Seat<PlaceGroup<W, P>>,
-    turn: Turn<PlaceGroup<W, P>>,
-    next: Option<W>,
-    spare: PlaceGroup<W, P>,
-) -> Result<(), NoMemory>
-    requires seat { IsSeatOf slots.now seat.old }
-    requires finds { FindsLived (view seat.old) turn }
-    requires spare { IsEmptyGroup turn.number spare × IsPlace (tags_of slots.now) turn.group }
-    requires lives { IfSome next (MayLiveAt W.fits W.keeps W.sound (tags_of slots.now) turn.group) }
-    ensures seat { IsSeatOf slots.now seat.new }
-    ensures leaves { Leaves (view seat.old) (view seat.new) }
-    ensures holds { OnOk result (IfSome next (λ handler.
-        HoldsHandler turn.group turn.number handler (view seat.new).known)) }
-{
-    let Some(handler) = next else {
-        put_tenant(slots, seat, turn, spare);
-        return Ok(());
-    };
-    match Group::make(alloc, Either::One(Place::Tenant(handler)), turn.number()) {
-        Ok(group) => {
-            put_tenant(slots, seat, turn, group);
-            Ok(())
-        }
-        Err(_) => {
-            put_tenant(slots, seat, turn, spare);
-            Err(NoMemory)
         }
     }
 }
@@ -308,10 +280,11 @@ fn advance<
     requires row { IsStartedIn turn.group whose row.old.items × (turn.group < PLACES) }
     ensures seat { IsSeatOf slots.now seat.new × Leaves (view seat.old) (view seat.new) }
     ensures row { ChangesAt turn.group row.old.items row.new.items }
-    ensures balance { N.tells ≡ true → (terms : W.Terms) → IsPlaceOf (tags_of slots.now) turn.group terms
-        → (misdials : ℕ)
-        → IsBalanced (W.is_done terms) misdials row.old.items (N.seen net.old)
-        → IsBalanced (W.is_done terms) misdials row.new.items (N.seen net.new) }
+    ensures serving { N.tells ≡ true → (terms : W.Terms) → IsPlaceOf (tags_of slots.now) turn.group terms
+        → FitsTerms W.fits W.keeps W.sound P.fits P.sound P.only_asked P.is_first
+        (W.behind terms (notes_of whose.number (N.seen net.old).noted)) turn.boxed.value
+        → ServesOn W.fits W.keeps P.fits W.behind W.is_done W.is_spent W.is_note terms (view seat.new).known
+        row.old.items row.new.items (N.seen net.old) (N.seen net.new) }
     ensures all { OnOk result ((HasAll row.old.items (N.seen net.old) → HasAll row.new.items (N.seen net.new))
         × ComesTo W.whose_of turn.group whose row.old.items row.new.items (view seat.new).known) }
     ensures net { KeepsGiven row.old.items row.new.items (N.seen net.old) (N.seen net.new) }
@@ -332,7 +305,7 @@ fn advance<
     match follow(alloc, setting, net, row, k, whose, turn.number(), leaving) {
         Ok(next) => put_next(alloc, slots, seat, turn, next, spare),
         Err(_) => {
-            put_tenant(slots, seat, turn, spare);
+            put_next(alloc, slots, seat, turn, None, spare)?;
             Err(NoMemory)
         }
     }
@@ -359,10 +332,9 @@ pub fn step_at<
     requires place { (k < PLACES) × (k < length row.old.items) }
     ensures seat { IsSeatOf slots.now seat.new × KeepsSeat (view seat.old) (view seat.new) 1 }
     ensures row { ChangesAt k row.old.items row.new.items }
-    ensures balance { N.tells ≡ true → (terms : W.Terms) → IsPlaceOf (tags_of slots.now) k terms
-        → (misdials : ℕ)
-        → IsBalanced (W.is_done terms) misdials row.old.items (N.seen net.old)
-        → IsBalanced (W.is_done terms) misdials row.new.items (N.seen net.new) }
+    ensures serving { KeepsServing W.fits W.keeps P.fits W.behind W.is_done W.is_spent W.is_note N.tells
+        (IsPlaceOf (tags_of slots.now) k) (view seat.old).known (view seat.new).known
+        row.old.items row.new.items (N.seen net.old) (N.seen net.new) }
     ensures all { OnOk result ((HasAll row.old.items (N.seen net.old) → HasAll row.new.items (N.seen net.new))
         × IsLookedAt W.sound W.whose_of W.is_ended k row.old.items row.new.items
         (view seat.old) (view seat.new)) }

@@ -36,8 +36,9 @@ pub fn step_next<
     requires acceptor { IsAcceptorOf acceptor.old (N.seen net.old) }
     ensures seat { IsSeatOf slots.now seat.new × KeepsSeat (view seat.old) (view seat.new) 1 }
     ensures acceptor { IsAcceptorOf acceptor.new (N.seen net.new) }
-    ensures keeps { KeepsAcceptor N.tells W.is_done (HasPlacesOf (tags_of slots.now))
-        acceptor.old acceptor.new (N.seen net.old) (N.seen net.new) }
+    ensures keeps { KeepsAcceptor W.fits W.keeps P.fits W.behind W.is_done W.is_spent W.is_note N.tells
+        (HasPlacesOf (tags_of slots.now)) (view seat.old).known (view seat.new).known acceptor.old acceptor.new
+        (N.seen net.old) (N.seen net.new) }
     ensures all { OnOk result (LosesNobody acceptor.old acceptor.new (N.seen net.old) (N.seen net.new)) }
     ensures looks { OnOk result ((acceptor.new.next ≡ (acceptor.old.next + 1) % PLACES)
         × IsLookedAt W.sound W.whose_of W.is_ended acceptor.old.next
@@ -66,8 +67,9 @@ pub fn step_all<
     requires acceptor { IsAcceptorOf acceptor.old (N.seen net.old) }
     ensures seat { IsSeatOf slots.now seat.new × KeepsSome (view seat.old) (view seat.new) }
     ensures acceptor { IsAcceptorOf acceptor.new (N.seen net.new) }
-    ensures keeps { KeepsAcceptor N.tells W.is_done (HasPlacesOf (tags_of slots.now))
-        acceptor.old acceptor.new (N.seen net.old) (N.seen net.new) }
+    ensures keeps { KeepsAcceptor W.fits W.keeps P.fits W.behind W.is_done W.is_spent W.is_note N.tells
+        (HasPlacesOf (tags_of slots.now)) (view seat.old).known (view seat.new).known acceptor.old acceptor.new
+        (N.seen net.old) (N.seen net.new) }
     ensures all { OnOk result (LosesNobody acceptor.old acceptor.new (N.seen net.old) (N.seen net.new)) }
 {
     'places: for _ in 0..PLACES {

@@ -68,7 +68,8 @@ impl<
         × IsAcceptorOf t.acceptor (N.seen t.net.now) };
 
     ghost gives = { λ t r. (r.0.ghost_name ≡ t.net.ghost_name)
-        × Serves N.tells W.is_done t.service.now.shared.slots.now t.service.now.shared.queue.now r.1.ended
+        × Serves W.fits W.keeps P.fits W.behind W.is_done W.is_spent W.is_note N.tells
+        t.service.now.shared.slots.now t.service.now.shared.queue.now r.1.ended
         t.desk r.1.desk t.acceptor r.1.acceptor (N.seen t.net.now) (N.seen r.0.now)
         × OnOk r.1.ended (IsOver r.1.acceptor) };
 
@@ -118,7 +119,8 @@ fn serve_alone<
         P.fits P.only_asked P.may_ask P.right P.answers (tags_of service.now.shared.slots.now) }
     requires here { IsDeskOf service.now.shared.slots.now service.now.shared.queue.now desk
         × IsAcceptorOf acceptor (N.seen net.old) }
-    ensures serves { Serves N.tells W.is_done service.now.shared.slots.now service.now.shared.queue.now
+    ensures serves { Serves W.fits W.keeps P.fits W.behind W.is_done W.is_spent W.is_note N.tells
+        service.now.shared.slots.now service.now.shared.queue.now
         result.ended desk result.desk acceptor result.acceptor (N.seen net.old) (N.seen net.new) }
     ensures over { OnOk result.ended (IsOver result.acceptor) }
 {
@@ -163,7 +165,8 @@ fn serve_beside<
     requires works { CanWork service.now.shared.slots.now service.now.shared.queue.now threads desk
         × (1 < threads) × (threads ≤ MOST_THREADS) }
     requires acceptor { IsAcceptorOf acceptor (N.seen net.old) }
-    ensures serves { Serves N.tells W.is_done service.now.shared.slots.now service.now.shared.queue.now
+    ensures serves { Serves W.fits W.keeps P.fits W.behind W.is_done W.is_spent W.is_note N.tells
+        service.now.shared.slots.now service.now.shared.queue.now
         result.ended desk result.desk acceptor result.acceptor (N.seen net.old) (N.seen net.new) }
     ensures over { OnOk result.ended (IsOver result.acceptor) }
     ensures helped { OnOk result.ended (WorkWholeInServer W.fits W.keeps W.asking W.answers W.called
@@ -224,7 +227,8 @@ pub fn run_event_threads<
     requires works { CanWork service.now.shared.slots.now service.now.shared.queue.now threads desk
         × (threads ≤ MOST_THREADS) }
     requires acceptor { IsAcceptorOf acceptor (N.seen net.old) }
-    ensures serves { Serves N.tells W.is_done service.now.shared.slots.now service.now.shared.queue.now
+    ensures serves { Serves W.fits W.keeps P.fits W.behind W.is_done W.is_spent W.is_note N.tells
+        service.now.shared.slots.now service.now.shared.queue.now
         result.ended desk result.desk acceptor result.acceptor (N.seen net.old) (N.seen net.new) }
     ensures over { OnOk result.ended (IsOver result.acceptor) }
     ensures helped { OnOk result.ended (WorkWholeInServer W.fits W.keeps W.asking W.answers W.called

@@ -7,8 +7,8 @@ use Rattle.ts_serve.proofs.Balance.{balance_out, no_more_out}
 use Rattle.ts_serve.proofs.Cleared.{goes_out, runs_on}
 use Rattle.ts_serve.proofs.clear.clear_place.Goals as goal
 
-pub returns-then-has_ended-clause-balance : goal.returns-then-has_ended-clause-balance
-returns-then-has_ended-clause-balance g c = λ tells terms fits misdials balance.
+pub returns-then-may_hand_over-clause-balance : goal.returns-then-may_hand_over-clause-balance
+returns-then-may_hand_over-clause-balance g c = λ tells terms fits misdials balance.
     let row = c.args.row.now.items in
     let connected = c.in-Accepted in
     let old = g.N.ClientSource.seen c.args.net.now in
@@ -21,8 +21,8 @@ returns-then-has_ended-clause-balance g c = λ tells terms fits misdials balance
     (subst (λ told. IsHanded told over.retired old new) tells over.handed) over.number_is over.origin_is
     over.done balance
 
-pub returns-then-has_ended-clause-no_more : goal.returns-then-has_ended-clause-no_more
-returns-then-has_ended-clause-no_more g c =
+pub returns-then-may_hand_over-clause-no_more : goal.returns-then-may_hand_over-clause-no_more
+returns-then-may_hand_over-clause-no_more g c =
     let row = c.args.row.now.items in
     let connected = c.in-Accepted in
     let found : get_or row c.args.k Free ≡ Accepted connected.whose connected.started connected.made =
@@ -31,9 +31,9 @@ returns-then-has_ended-clause-no_more g c =
     (g.N.ClientSource.seen c.hand_over.new.net) c.requires.place found c.in_ok-hand_over.ensures.more
     c.hand_over.ensures.net.given
 
-pub returns-then-has_ended-clause-cleared : goal.returns-then-has_ended-clause-cleared
-returns-then-has_ended-clause-cleared g c =
-    goes_out g.W.Handler.whose_of g.W.Handler.is_ended c.args.k c.args.group
+pub returns-then-may_hand_over-clause-cleared : goal.returns-then-may_hand_over-clause-cleared
+returns-then-may_hand_over-clause-cleared g c =
+    goes_out g.W.Handler.whose_of g.W.Handler.is_ended g.W.Handler.may_wait c.args.k c.args.group
     c.args.row.now.items _ (get_or-set_same c.args.row.now.items c.args.k Free Free c.requires.place)
 
 pub returns-clause-cleared : goal.returns-clause-cleared
@@ -42,6 +42,6 @@ returns-clause-cleared g c =
     let connected = c.in-Accepted in
     let found : get_or row c.args.k Free ≡ Accepted connected.whose connected.started connected.made =
     sym (get_or_read row c.args.k c.index.result.now c.requires.place c.index.ensures Free) ∙ connected.is in
-    runs_on g.W.Handler.whose_of g.W.Handler.is_ended c.args.k c.args.group row row
+    runs_on g.W.Handler.whose_of g.W.Handler.is_ended g.W.Handler.may_wait c.args.k c.args.group row row
     connected.whose connected.started connected.made found
     (c.is_running.ensures.0 c.if-not-is_running.false)

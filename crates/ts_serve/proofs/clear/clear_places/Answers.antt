@@ -54,20 +54,21 @@ places-preserved g c =
       stood.1,
       elim c.match-clear_place.branch [
         | in-Err w ↦ subst (ClearsOn g.W.Handler.whose_of
-            g.W.Handler.is_ended (c.places.k + 1) c.args.groups.items c.args.row.now.items
-            c.clear_place.new.row.items) (sym w.cleared-is)
+            g.W.Handler.is_ended g.W.Handler.may_wait (c.places.k + 1) c.args.groups.items
+            c.args.row.now.items c.clear_place.new.row.items) (sym w.cleared-is)
             (rest_on c.places.k c.args.row.now.items c.places.row.items c.clear_place.new.row.items
-            (rest_stays g.W.Handler.whose_of g.W.Handler.is_ended
+            (rest_stays g.W.Handler.whose_of g.W.Handler.is_ended g.W.Handler.may_wait
             c.places.k c.args.groups.items c.args.row.now.items c.places.row.items c.places.cleared before.7)
             c.clear_place.ensures.others)
         | in_default-clear_place w ↦ subst (ClearsOn g.W.Handler.whose_of
-            g.W.Handler.is_ended (c.places.k + 1) c.args.groups.items
+            g.W.Handler.is_ended g.W.Handler.may_wait (c.places.k + 1) c.args.groups.items
             c.args.row.now.items c.clear_place.new.row.items) (sym w.cleared-is)
-            (clears_more g.W.Handler.whose_of g.W.Handler.is_ended
+            (clears_more g.W.Handler.whose_of g.W.Handler.is_ended g.W.Handler.may_wait
             c.places.k c.args.groups.items c.args.row.now.items c.places.row.items c.clear_place.new.row.items
             c.in-Some.group c.places.cleared stood.0 c.clear_place.ensures.others
             (subst (λ r. OnOk r (IsCleared g.W.Handler.whose_of
-            g.W.Handler.is_ended c.places.k c.in-Some.group c.places.row.items c.clear_place.new.row.items))
+            g.W.Handler.is_ended g.W.Handler.may_wait c.places.k c.in-Some.group c.places.row.items
+            c.clear_place.new.row.items))
             w.in_default-clear_place.is c.clear_place.ensures.cleared) before.7)
       ],
       elim c.match-clear_place.branch [
@@ -87,13 +88,13 @@ places-preserved g c =
 
 pub returns-then-k-eq-PLACES-clause-cleared : goal.returns-then-k-eq-PLACES-clause-cleared
 returns-then-k-eq-PLACES-clause-cleared g c =
-    all_cleared g.W.Handler.whose_of g.W.Handler.is_ended c.places.k
+    all_cleared g.W.Handler.whose_of g.W.Handler.is_ended g.W.Handler.may_wait c.places.k
     c.args.groups.items c.args.row.now.items c.places.row.items c.places.cleared
     (λ j h low at. let all = c.if-k-eq-PLACES.true in omega arith) c.places.invariant.7
 
 pub returns-clause-cleared : goal.returns-clause-cleared
 returns-clause-cleared g c =
-    all_cleared g.W.Handler.whose_of g.W.Handler.is_ended c.places.k
+    all_cleared g.W.Handler.whose_of g.W.Handler.is_ended g.W.Handler.may_wait c.places.k
     c.args.groups.items c.args.row.now.items c.places.row.items c.places.cleared
     (λ j h low at. stand_none c.places.k j c.args.groups.items c.places.rest.items h
     (nothing_left c.places.rest.items (c.in_default.ensures.items ∙ c.in_default.ensures.rest))

@@ -23,7 +23,7 @@ invariant-places g l =
     × (HasNoMore l.initial.row.items (g.N.ClientSource.seen l.initial.net)
     → HasNoMore l.row.items (g.N.ClientSource.seen l.net))
     × StandFrom l.k l.fn.groups.items l.rest.items
-    × ClearsOn g.W.Handler.whose_of g.W.Handler.is_ended l.k
+    × ClearsOn g.W.Handler.whose_of g.W.Handler.is_ended g.W.Handler.may_wait l.k
     l.fn.groups.items l.initial.row.items l.row.items l.cleared
     × OnOk l.cleared (HasAll l.initial.row.items (g.N.ClientSource.seen l.initial.net)
     → HasAll l.row.items (g.N.ClientSource.seen l.net))

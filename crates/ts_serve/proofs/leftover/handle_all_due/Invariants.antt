@@ -1,9 +1,11 @@
 -- Group after group, all fit the tags that they fitted.
 use Rattle.std.specs.Prelude.{◌≡◌, length}
-use Rattle.ts_serve.specs.Leftover.{StayFit}
+use Rattle.ts_serve.specs.Leftover.{AreMadeAlike, ServerStaysFit}
 use Rattle.ts_serve.proofs.leftover.handle_all_due.Given as goal
 
 abbrev pub invariant-groups : goal.invariant-groups
 invariant-groups g l =
-    StayFit g.W.Slotted.fits g.W.World.sound g.W.World.only_asked g.W.World.is_first l.initial.groups l.groups
+    ServerStaysFit g.W.Slotted.fits g.W.Tenant.keeps g.W.World.sound g.P.Slotted.fits g.P.World.sound
+    g.P.World.only_asked g.P.World.is_first l.initial.groups l.groups
+    × AreMadeAlike l.initial.groups l.groups
     × (length l.groups ≡ length l.initial.groups)

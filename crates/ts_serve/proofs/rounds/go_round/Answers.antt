@@ -21,7 +21,7 @@ returns-in_err-is_idle g c = record {
 
 pub returns : goal.returns
 returns g c =
-    serves_roused g.N.ClientSource.tells g.W.Handler.is_done c.args.service.now.shared.slots.now
+    serves_roused c.args.service.now.shared.slots.now
     c.args.service.now.shared.queue.now c.args.desk.now c.take_round.new.desk c.rouse_ready.new.desk
     c.args.acceptor.now c.take_round.new.acceptor (g.N.ClientSource.seen c.args.net.now)
     (g.N.ClientSource.seen c.take_round.new.net) (g.N.ClientSource.seen c.ask_ready.new.net)

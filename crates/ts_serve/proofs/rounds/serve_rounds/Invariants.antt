@@ -9,7 +9,8 @@ abbrev pub invariant-rounds : goal.invariant-rounds
 invariant-rounds g l =
     IsDeskOf l.service.shared.slots.now l.service.shared.queue.now l.desk
     × IsAcceptorOf l.acceptor (g.N.ClientSource.seen l.net)
-    × GoesOn g.N.ClientSource.tells g.W.Handler.is_done (HasPlacesOf (tags_of l.service.shared.slots.now))
+    × GoesOn g.W.Slotted.fits g.W.Tenant.keeps g.P.Slotted.fits g.W.Handler.behind g.W.Handler.is_done
+    g.W.Handler.is_spent g.W.Handler.is_note g.N.ClientSource.tells (HasPlacesOf (tags_of l.service.shared.slots.now))
     l.initial.desk l.desk l.initial.acceptor l.acceptor (g.N.ClientSource.seen l.initial.net)
     (g.N.ClientSource.seen l.net)
     × LosesNobody l.initial.acceptor l.acceptor (g.N.ClientSource.seen l.initial.net)

@@ -9,45 +9,33 @@ use Rattle.ts_serve.proofs.Cleared.{closed_over}
 use Rattle.ts_serve.proofs.Servers.{FitsTag, fit_places}
 use Rattle.ts_serve.proofs.server.close_server.Goals as goal
 
-pub finish_left-handled-requires : goal.finish_left-handled-requires
-finish_left-handled-requires g c = record {
-  fits = (
-    tags_of c.args.server.slots,
-    c.requires.asks,
-    subst (FitServer g.W.Slotted.fits g.W.Tenant.keeps g.W.World.sound g.P.Slotted.fits g.P.World.sound
-        g.P.World.only_asked g.P.World.is_first (tags_of c.args.server.slots)) (sym c.as_mut_slice.ensures.value)
-        (zip_from_found (FitsTag g.W.Slotted.fits g.W.Tenant.keeps g.W.World.sound g.P.Slotted.fits
-        g.P.World.sound g.P.World.only_asked g.P.World.is_first) (tags_of c.args.server.slots)
-        c.in-Ok.groups.items c.in-Ok.ensures.count (λ k x at. (c.in-Ok.ensures.values k x at).fit)),
-  );
-}
-
 pub returns-clause-balance : goal.returns-clause-balance
 returns-clause-balance g c = λ telling terms places misdials balance.
     let tags = tags_of c.args.server.slots in
     let fit = subst (FitServer g.W.Slotted.fits g.W.Tenant.keeps g.W.World.sound g.P.Slotted.fits
     g.P.World.sound g.P.World.only_asked g.P.World.is_first tags) (sym c.as_mut_slice.ensures.value)
     (zip_from_found (FitsTag g.W.Slotted.fits g.W.Tenant.keeps g.W.World.sound g.P.Slotted.fits
-    g.P.World.sound g.P.World.only_asked g.P.World.is_first) tags c.in-Ok.groups.items
-    c.in-Ok.ensures.count (λ k x at. (c.in-Ok.ensures.values k x at).fit)) in
+    g.P.World.sound g.P.World.only_asked g.P.World.is_first) tags c.in_ok-groups.groups.items
+    c.in_ok-groups.ensures.count (λ k x at. (c.in_ok-groups.ensures.last k x at).fit)) in
     let done = c.finish_left-handled.ensures.fit tags fit in
     let long = c.finish_left-handled.ensures.count ∙ ap length c.as_mut_slice.ensures.value
-    ∙ sym c.in-Ok.groups.ok.0 in
+    ∙ sym c.in_ok-groups.groups.ok.0 in
     c.clear_places-cleared.ensures.balance telling terms
     (fit_places g.W.Slotted.fits g.W.Tenant.keeps g.W.World.sound g.P.Slotted.fits g.P.World.sound
     g.P.World.only_asked g.P.World.is_first tags terms _ places
     (taken_table (FitServer g.W.Slotted.fits g.W.Tenant.keeps g.W.World.sound g.P.Slotted.fits g.P.World.sound
-    g.P.World.only_asked g.P.World.is_first tags) c.in-Ok.groups.len c.finish_left-handled.new.groups
-    c.in-Ok.groups.items long done))
+    g.P.World.only_asked g.P.World.is_first tags) c.in_ok-groups.groups.len c.finish_left-handled.new.groups
+    c.in_ok-groups.groups.items long done))
     misdials balance
 
 pub returns-clause-closed : goal.returns-clause-closed
 returns-clause-closed g c =
     let as_many = c.finish_left-handled.ensures.count ∙ ap length c.as_mut_slice.ensures.value in
     IfOk-weaker c.found_whole.result _ _
-    (λ found is. closed_over g.W.Handler.whose_of g.W.Handler.is_ended
-    (tags_of c.args.server.slots) c.in-Ok.groups.len c.finish_left-handled.new.groups c.in-Ok.groups.items
+    (λ found is. closed_over g.W.Handler.whose_of g.W.Handler.is_ended g.W.Handler.may_wait
+    (tags_of c.args.server.slots) c.in_ok-groups.groups.len c.finish_left-handled.new.groups
+    c.in_ok-groups.groups.items
     found.value.items c.args.row.now.items c.clear_places-cleared.new.row.items c.finish_left-handled.result
     c.clear_places-cleared.result (ap (λ s. s.value.items) is.0 ∙ ap (λ v. v.items) c.of-found.ensures)
-    (as_many ∙ sym c.in-Ok.groups.ok.0) (as_many ∙ c.in-Ok.ensures.count) is.1
+    (as_many ∙ sym c.in_ok-groups.groups.ok.0) (as_many ∙ c.in_ok-groups.ensures.count) is.1
     c.finish_left-handled.ensures.idle is.2 c.clear_places-cleared.ensures.cleared) c.found_whole.ensures

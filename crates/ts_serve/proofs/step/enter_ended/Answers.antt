@@ -4,6 +4,9 @@ use Rattle.ts_slot.specs.Words.{tags_of, view}
 use Rattle.ts_slot.proofs.Lists.{each_map}
 use Rattle.ts_thread.specs.Entering.{Finds}
 use Rattle.ts_thread.specs.Seats.{KnowsTurn}
+use Rattle.ts_journal.specs.Machine.{HasLived}
+use Rattle.ts_group.specs.Either.{EitherFits}
+use Rattle.ts_serve.specs.Places.{PlaceFits}
 use Rattle.ts_serve.specs.TakingOut.{EntersEnded, HasEndedAt}
 use Rattle.ts_serve.proofs.step.enter_ended.Goals as goal
 
@@ -44,8 +47,10 @@ returns-then-not-finds_ended-clause-found g c =
 
 pub returns-clause-found : goal.returns-clause-found
 returns-clause-found g c =
-    let same = c.finds_ended.ensures.same ∙ c.finds_lacking.ensures.same in
-    subst (EntersEnded g.W.World.sound g.W.Handler.whose_of g.W.Handler.is_ended (tags_of c.args.slots.now)
+    let same = c.open_turn.ensures.same ∙ c.finds_ended.ensures.same ∙ c.finds_lacking.ensures.same in
+    let before = c.finds_ended.ensures.same ∙ c.finds_lacking.ensures.same in
+    subst (EntersEnded g.W.World.sound g.W.Handler.whose_of g.W.Handler.is_ended
+    (EitherFits (PlaceFits g.W.Slotted.fits g.W.Tenant.keeps) g.P.Slotted.fits) (tags_of c.args.slots.now)
     c.args.whose c.args.made c.args.k (view c.args.seat.now) (view c.enter.new.seat)) (sym same)
     (record {
       group = c.in-Some.ensures.group;
@@ -54,4 +59,7 @@ returns-clause-found g c =
           c.args.made t.boxed.value) c.finds_lacking.ensures.same
           (c.finds_ended.ensures.over.0 c.if-not-finds_ended.false);
       keeps = c.in-Some.ensures.keeps;
+      again = c.in-Some.ensures.again;
+      lived = subst (λ t. HasLived t.boxed.value.cx.log.base.made t.boxed.value.cx.log.state) before
+          c.open_turn.ensures.lived;
     })

@@ -11,8 +11,7 @@ use Rattle.ts_serve.proofs.Splits.{goes_joined, serves_split, whole_beside}
 use Rattle.ts_serve.proofs.workers.serve_beside.Goals as goal
 
 pub returns-in_default-clause-serves : goal.returns-in_default-clause-serves
-returns-in_default-clause-serves g c = serves_split g.N.ClientSource.tells g.W.Handler.is_done
-    c.args.service.now.shared.slots.now c.args.service.now.shared.queue.now c.args.desk c.split.new.self
+returns-in_default-clause-serves g c = serves_split c.args.service.now.shared.slots.now c.args.service.now.shared.queue.now c.args.desk c.split.new.self
     c.args.acceptor (g.N.ClientSource.seen c.args.net.now) _ c.split.ensures.desk c.requires.acceptor
     c.in_default.ensures.err
 
@@ -24,15 +23,15 @@ returns-clause-serves g c =
     let served = c.run_beside-worked.ensures.2.1 in
     let before = g.N.ClientSource.seen c.args.net.now in
     let after = g.N.ClientSource.seen both.1.0.now in
-    subst (λ (net : g.row.N.Denot). Serves g.N.ClientSource.tells g.W.Handler.is_done slots
+    subst (λ (net : g.row.N.Denot). Serves g.W.Slotted.fits g.W.Tenant.keeps g.P.Slotted.fits g.W.Handler.behind g.W.Handler.is_done
+    g.W.Handler.is_spent g.W.Handler.is_note g.N.ClientSource.tells slots
     c.args.service.now.shared.queue.now c.ended_whole.result c.args.desk c.join.new.self c.args.acceptor
     joined.acceptor before (g.N.ClientSource.seen net))
     (search rules)
     (record {
       at_desk = c.join.ensures.desk;
       at_acceptor = served.at_acceptor;
-      goes = goes_joined g.N.ClientSource.tells g.W.Handler.is_done (HasPlacesOf (tags_of slots)) slots
-          c.args.service.now.shared.queue.now c.args.threads c.args.desk c.split.new.self c.in-Ok.first
+      goes = goes_joined slots c.args.service.now.shared.queue.now c.args.threads c.args.desk c.split.new.self c.in-Ok.first
           both.0.desk joined.desk c.join.new.self c.args.acceptor joined.acceptor before after
           c.requires.works.0 c.in-Ok.ensures.ok c.run_beside-worked.ensures.0.keeps served.goes
           c.join.ensures.joins;
