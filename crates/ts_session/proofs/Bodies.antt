@@ -1,8 +1,10 @@
 -- Where a request ends whose head is known, and its first request of all bytes.
 use Rattle.std.proofs.Common.{◌≡◌, ℕ, ◌+◌, ◌-◌, ◌<◌, ◌≤◌, List, [], ◌++◌, length, take, drop, refl, sym, ap}
-use Rattle.std.proofs.Common.{subst, ⊎_elim, ◌∙◌, arith, append_assoc, length-append, take-append-drop, Option, Some, None}
+use Rattle.std.proofs.Common.{subst, ⊎_elim, ◌∙◌, arith, append_assoc, length-append, take-append-drop}
+use Rattle.std.proofs.Common.{Option, Some, None}
 use Rattle.std.proofs.lemmas.Bool.{cases_lt}
-use Rattle.std.proofs.lemmas.List.{append-nil, append_cancel_left, length-drop, length-take-le, take-append-le}
+use Rattle.std.proofs.lemmas.List.{append-nil, append_cancel_left, length-drop, length-take-le}
+use Rattle.std.proofs.lemmas.List.{take-append-le}
 use Rattle.std.proofs.lemmas.List.{take_all, take_at}
 use Rattle.ts_lists.proofs.Fronts.{front_was_there}
 use Rattle.httparse.specs.Grammar as grammar
@@ -22,7 +24,8 @@ use Rattle.ts_session.specs.Chunks.{IsAmid}
 use Rattle.ts_session.specs.ChunksEnd.{chunks_end}
 use Rattle.ts_session.specs.Course.{HasBodyOf, IsInChunks, IsKnown}
 use Rattle.ts_session.specs.FirstRequest.{first_request}
-use Rattle.ts_session.specs.Requests.{GivesAll, IsBodyBy, IsRequest, IsRequestWith, LacksWhole, chunks, no_head, unknown}
+use Rattle.ts_session.specs.Requests.{GivesAll, IsBodyBy, IsRequest, IsRequestWith, LacksWhole, chunks}
+use Rattle.ts_session.specs.Requests.{no_head, unknown}
 use Rattle.ts_session.specs.declared.request.Request.{Request}
 use Rattle.ts_session.proofs.ChunksEnd.{ended_on, finds_chunks_end}
 use Rattle.ts_session.proofs.FirstRequest.{first_lacks, first_whole}

@@ -9,7 +9,8 @@ use Rattle.std.proofs.lemmas.Bool.{and_from, and_parts, eqb-true, le-leb, leb-tr
 use Rattle.std.proofs.lemmas.Bool.{or_cases, or_right}
 use Rattle.std.proofs.lemmas.List.Sums.{AllPass-from_list_all, list_all-from_AllPass}
 use Rattle.httparse.specs.Ascii.{crlf_bytes, semicolon}
-use Rattle.httparse.specs.Grammar.{AllPass, ChunkLine, IsChunkLine, IsExtension, chunk_size, is_extension_byte}
+use Rattle.httparse.specs.Grammar.{AllPass, ChunkLine, IsChunkLine, IsExtension, chunk_size}
+use Rattle.httparse.specs.Grammar.{is_extension_byte}
 use Rattle.httparse.specs.Grammar.{is_ows, print_chunk_line, print_extension}
 use Rattle.ts_wire.specs.Body.{IsShortLine}
 use Rattle.ts_wire.specs.Limits.{line_limit}

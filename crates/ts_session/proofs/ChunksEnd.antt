@@ -1,16 +1,19 @@
 -- The end of a body in chunks is a function of its bytes.
-use Rattle.std.proofs.Common.{◌≡◌, ℕ, zero, suc, ◌+◌, ◌<◌, ◌≤◌, Bool, true, false, List, [], ◌∷◌, ◌++◌, length}
+use Rattle.std.proofs.Common.{◌≡◌, ℕ, zero, suc, ◌+◌, ◌<◌, ◌≤◌, Bool, true, false, List, [], ◌∷◌, ◌++◌}
+use Rattle.std.proofs.Common.{length}
 use Rattle.std.proofs.Common.{take, drop, ⊎_elim, refl, sym, ap, subst, ◌∙◌, arith, append_assoc}
 use Rattle.std.proofs.Common.{Some, None, cond, length-append}
 use Rattle.std.specs.Prelude.{◌&&◌, ◌==◌, All, bytes_eq, nat_le}
 use Rattle.std.proofs.lemmas.Bool.{and_from, and_parts, cases_Bool, cases_eq, cond-false, cond-true}
 use Rattle.std.proofs.lemmas.Bool.{eq-eqb, le-leb, leb-true, ne_eqb}
-use Rattle.std.proofs.lemmas.List.{append-nil, drop_at, length-drop, length-take, take-append-drop, take-append-le}
+use Rattle.std.proofs.lemmas.List.{append-nil, drop_at, length-drop, length-take, take-append-drop}
+use Rattle.std.proofs.lemmas.List.{take-append-le}
 use Rattle.std.proofs.lemmas.List.{drop-drop, take_at}
 use Rattle.std.proofs.lemmas.List.Elements.{All-cons, All-head, All-nil, All-tail}
 use Rattle.std.proofs.lemmas.Slice.Eq.{bytes_eq-Decides}
 use Rattle.httparse.specs.Ascii.{crlf_bytes}
-use Rattle.httparse.specs.Grammar.{ChunkLine, Field, IsChunkLine, IsField, LineEnd, chunk_size, print_chunk_line}
+use Rattle.httparse.specs.Grammar.{ChunkLine, Field, IsChunkLine, IsField, LineEnd, chunk_size}
+use Rattle.httparse.specs.Grammar.{print_chunk_line}
 use Rattle.httparse.specs.Grammar.{print_extension, print_section}
 use Rattle.ts_wire.specs.Body.{Chunk, IsBadChunked, IsChunk, IsEndedChunked, IsShortLine, contents}
 use Rattle.ts_wire.specs.Body.{print_chunk, print_chunks}
@@ -27,7 +30,8 @@ use Rattle.ts_session.proofs.Cuts.{section_found, section_there}
 
 -- ---- a body, line by line
 
--- the bytes are whole chunks, a last chunk line and a trailer section, where so many bytes of content came before
+-- the bytes are whole chunks, a last chunk line and a trailer section, where so many bytes of content came
+-- before
 record IsBodyOf (total : ℕ) (bytes : List ℕ) : Type 0 where
   chunks : List Chunk
   good : All IsChunk chunks

@@ -10,7 +10,8 @@ use Rattle.ts_link.specs.declared.link.Put.{Put}
 use Rattle.ts_wire.specs.RequestEnds.{end_of_request}
 use Rattle.ts_wire.proofs.OneRequest.{one_request}
 use Rattle.ts_session.specs.ChunksEnd.{chunks_end}
-use Rattle.ts_session.specs.Course.{HasBodyOf, IsInChunks, IsKnown, IsSound, StandsBy, is_whole, may_go_on, request_given, response_written}
+use Rattle.ts_session.specs.Course.{HasBodyOf, IsInChunks, IsKnown, IsSound, StandsBy, is_whole, may_go_on}
+use Rattle.ts_session.specs.Course.{request_given, response_written}
 use Rattle.ts_session.specs.Course.{span_look, taken_before}
 use Rattle.ts_session.specs.Limits.{most_places}
 use Rattle.ts_session.specs.Requests.{IsBodyBy, IsRequest, IsRequestWith, asks_head, persists}

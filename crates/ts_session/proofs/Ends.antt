@@ -1,6 +1,7 @@
 -- What a span comes to: each of its calls is one of a link, and at its end its client is that of the session.
 use Rattle.std.proofs.Common.{◌≡◌, inl, inr, ℕ, ◌+◌, ◌-◌, ◌<◌, ◌≤◌, Bool, true, false, ◌||◌, List, [], ◌++◌}
-use Rattle.std.proofs.Common.{length, length-append, take, refl, sym, ap, subst, ⊎_elim, ◌∙◌, arith, append_assoc}
+use Rattle.std.proofs.Common.{length, length-append, take, refl, sym, ap, subst, ⊎_elim, ◌∙◌, arith}
+use Rattle.std.proofs.Common.{append_assoc}
 use Rattle.std.proofs.Common.{None}
 use Rattle.std.specs.Prelude.{◌&&◌, nat_lt}
 use Rattle.std.specs.List.{slice_range}
@@ -9,12 +10,14 @@ use Rattle.std.proofs.lemmas.List.{append-nil, nil_from_length, take_all}
 use Rattle.ts_lists.proofs.Fronts.{rest_by_length}
 use Rattle.ts_link.specs.Counts.{one_more}
 use Rattle.ts_link.specs.Link.{Calls, GivesMore, Lacks, Look, MayReplace, Reads, TakesMore, Writes, all_of}
-use Rattle.ts_link.specs.LinkAnswers.{EndsWell, count_got, count_put, got_again, got_failed, put_again, writes_after}
+use Rattle.ts_link.specs.LinkAnswers.{EndsWell, count_got, count_put, got_again, got_failed, put_again}
+use Rattle.ts_link.specs.LinkAnswers.{writes_after}
 use Rattle.ts_link.specs.declared.link.Got.{Got}
 use Rattle.ts_link.specs.declared.link.Put.{Put}
 use Rattle.ts_link.specs.declared.link.Put.TheVariants as W
 use Rattle.ts_session.specs.Course.{HoldsHead, IsOwing, IsWithin, fresh_request, has_found}
-use Rattle.ts_session.specs.Course.{is_whole, may_go_on, request_given, request_rest, response_written, told, waiting}
+use Rattle.ts_session.specs.Course.{is_whole, may_go_on, request_given, request_rest, response_written, told}
+use Rattle.ts_session.specs.Course.{waiting}
 use Rattle.ts_session.specs.Course.{IsKnown, IsPlaced, IsSound, MayGoOn, RespondsBy}
 use Rattle.ts_session.specs.Course.{StandsBy, fresh_response, given_before, given_on, is_dropped, request_of}
 use Rattle.ts_session.specs.Course.{request_through, since, span_look, taken_before, written_by}
@@ -342,8 +345,8 @@ front_of R.Open r given left all = (r.held ++ left, first_all (given ++ (r.held 
 
 -- ---- the response at its end
 
--- What the client took of it: what is kept of what was written, or all of it but for what waits. Nothing waits where
--- the head has ended.
+-- What the client took of it: what is kept of what was written, or all of it but for what waits. Nothing
+-- waits where the head has ended.
 pub record IsTaken (x : Sending) (start cut taken : List ℕ) : Type 0 where
   pub sent : List ℕ
   pub is_sent : IsSent (is_dropped x) (waiting x) (written_by x start cut taken) sent

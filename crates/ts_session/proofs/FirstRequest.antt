@@ -1,6 +1,7 @@
 -- The first request of a client's bytes is a function of them.
 use Rattle.std.proofs.Common.{◌≡◌, ℕ, ◌+◌, ◌<◌, ◌≤◌, Bool, true, List, [], ◌++◌, length, take, drop}
-use Rattle.std.proofs.Common.{inl, inr, ⊎_elim, refl, sym, ap, subst, ◌∙◌, arith, length-append, take-append-drop}
+use Rattle.std.proofs.Common.{inl, inr, ⊎_elim, refl, sym, ap, subst, ◌∙◌, arith, length-append}
+use Rattle.std.proofs.Common.{take-append-drop}
 use Rattle.std.proofs.Common.{Option, Some, None}
 use Rattle.std.specs.Prelude.{◌&&◌, map, nat_le}
 use Rattle.std.proofs.lemmas.Bool.{and_from, and_parts, eq-eqb, eqb-true, le-leb, leb-true}
@@ -12,7 +13,8 @@ use Rattle.ts_wire.specs.RequestEnds.{end_of_parts, end_of_request}
 use Rattle.ts_wire.specs.declared.ends.RequestEnd.{RequestEnd}
 use Rattle.ts_wire.specs.declared.ends.RequestEnd.TheVariants as E
 use Rattle.ts_session.specs.Cuts.{cuts}
-use Rattle.ts_session.specs.FirstRequest.{FindsFirst, begins_with_head, first_request, is_body_by, is_head_with}
+use Rattle.ts_session.specs.FirstRequest.{FindsFirst, begins_with_head, first_request, is_body_by}
+use Rattle.ts_session.specs.FirstRequest.{is_head_with}
 use Rattle.ts_session.specs.FirstRequest.{is_whole_request, request_end, take_to}
 use Rattle.ts_session.specs.Requests.{IsBodyBy, IsNext, IsRequest, LacksWhole}
 use Rattle.ts_session.proofs.ChunksEnd.{least_found, least_none, least_there, not_true}

@@ -1,6 +1,8 @@
 -- What reads of a client do to the request that is shown of it.
-use Rattle.std.proofs.Common.{◌≡◌, ◌⊎◌, inl, inr, cond, ℕ, ◌+◌, ◌-◌, ◌<◌, ◌≤◌, Bool, true, false, List, [], ◌++◌}
-use Rattle.std.proofs.Common.{length, take, drop, refl, sym, ap, subst, ◌∙◌, arith, append_assoc, length-append}
+use Rattle.std.proofs.Common.{◌≡◌, ◌⊎◌, inl, inr, cond, ℕ, ◌+◌, ◌-◌, ◌<◌, ◌≤◌, Bool, true, false, List, []}
+use Rattle.std.proofs.Common.{◌++◌}
+use Rattle.std.proofs.Common.{length, take, drop, refl, sym, ap, subst, ◌∙◌, arith, append_assoc}
+use Rattle.std.proofs.Common.{length-append}
 use Rattle.std.proofs.lemmas.List.{append-nil, append_cancel_left, length-drop, length-take, nil_from_length}
 use Rattle.std.proofs.lemmas.List.{take-append-drop, take_at}
 use Rattle.ts_lists.proofs.Fronts.{take_past}
@@ -11,7 +13,8 @@ use Rattle.ts_link.specs.declared.link.Got.TheVariants as G
 use Rattle.ts_wire.specs.Heads.{BeginsWithRequest, LacksRequest}
 use Rattle.ts_wire.specs.Limits.{head_limit}
 use Rattle.ts_wire.specs.RequestEnds.{end_of_request}
-use Rattle.ts_session.specs.Course.{HoldsHead, HoldsRequest, IsInChunks, IsKnown, IsPlaced, StandsBy, given_on}
+use Rattle.ts_session.specs.Course.{HoldsHead, HoldsRequest, IsInChunks, IsKnown, IsPlaced, StandsBy}
+use Rattle.ts_session.specs.Course.{given_on}
 use Rattle.ts_session.specs.Course.{is_head, request_through, since}
 use Rattle.ts_session.specs.Finding.{Decides, GoesOnChunked}
 use Rattle.ts_session.specs.FirstRequest.{first_request}
@@ -25,7 +28,8 @@ use Rattle.ts_session.proofs.Bodies.{amid_none, body_more, chunks_first, first_a
 use Rattle.ts_session.proofs.FirstRequest.{first_next}
 use Rattle.ts_session.proofs.FoundHeads.{begins_more}
 use Rattle.ts_session.proofs.LinkCalls.{calls_after, calls_none, gives_after, gives_none, replace_none}
-use Rattle.ts_session.proofs.Parts.{asked_is, came_behind, given_is, given_more, left_more, since_is, whole_more}
+use Rattle.ts_session.proofs.Parts.{asked_is, came_behind, given_is, given_more, left_more, since_is}
+use Rattle.ts_session.proofs.Parts.{whole_more}
 
 -- ---- none, and one after the other
 
@@ -181,6 +185,13 @@ module _ (tells : Bool) (r : Request) (held' : List ℕ) (l m : Look) (stage : r
       → MovesOn tells r (record r { held = held' }) l m true false [] × HoldsHead r.reading held'
   filled_fails fills =
       still_sought fills.held_is true false fills.reads.calls fills.reads.once.writes fills.whole fills.reads.told
+
+  -- or it has ended, which is not looked at
+  pub filled_rests : FillsFrom tells r.held held' l m G.End
+      → MovesOn tells r (record r { held = held' }) l m false false [] × HoldsHead r.reading held'
+  filled_rests fills =
+      still_sought fills.held_is false false fills.reads.calls fills.reads.once.writes fills.whole
+      fills.reads.told
 
   -- or it has ended before a whole head
   pub filled_ended : FillsFrom tells r.held held' l m G.End

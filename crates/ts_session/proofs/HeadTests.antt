@@ -4,16 +4,20 @@ use Rattle.std.proofs.Common.{refl, sym, ap, subst, ◌∙◌, append_assoc, ari
 use Rattle.std.specs.Prelude.{◌&&◌, ◌==◌, IsUtf8, bytes_eq, nat_lt}
 use Rattle.std.specs.List.{list_all}
 use Rattle.std.specs.Str.{is_utf8}
-use Rattle.std.proofs.lemmas.Bool.{and_from, and_parts, eqb-true, lt-ltb, ltb-true, or_cases, or_left, or_right}
+use Rattle.std.proofs.lemmas.Bool.{and_from, and_parts, eqb-true, lt-ltb, ltb-true, or_cases, or_left}
+use Rattle.std.proofs.lemmas.Bool.{or_right}
 use Rattle.std.proofs.lemmas.List.Sums.{AllPass-from_list_all, list_all-from_AllPass}
 use Rattle.std.proofs.lemmas.Slice.Eq.{bytes_eq-Decides}
 use Rattle.std.proofs.lemmas.Str.{IsUtf8-from_is_utf8, is_utf8-from_IsUtf8}
 use Rattle.httparse.specs.Ascii.{space}
-use Rattle.httparse.specs.Grammar.{AllPass, Field, IsRequestHead, IsToken, LineEnd, RequestHead, crlf, is_token}
-use Rattle.httparse.specs.Grammar.{is_uri_byte, lf, print_blank, print_end, print_request, print_section, print_version}
+use Rattle.httparse.specs.Grammar.{AllPass, Field, IsRequestHead, IsToken, LineEnd, RequestHead, crlf}
+use Rattle.httparse.specs.Grammar.{is_token}
+use Rattle.httparse.specs.Grammar.{is_uri_byte, lf, print_blank, print_end, print_request, print_section}
+use Rattle.httparse.specs.Grammar.{print_version}
 use Rattle.ts_wire.specs.Limits.{field_limit}
 use Rattle.ts_session.specs.Cuts.{cuts, is_end_with, is_section_with}
-use Rattle.ts_session.specs.FirstRequest.{are_blank, are_fields_with, is_head_with, is_method_end, is_start_with}
+use Rattle.ts_session.specs.FirstRequest.{are_blank, are_fields_with, is_head_with, is_method_end}
+use Rattle.ts_session.specs.FirstRequest.{is_start_with}
 use Rattle.ts_session.specs.FirstRequest.{is_target, is_target_end, is_version_with}
 use Rattle.ts_session.proofs.Cuts.{IsSectionOf, cut_found, cut_there, end_found, end_there, same_bytes}
 use Rattle.ts_session.proofs.Cuts.{section_found, section_there, token_found, token_there}

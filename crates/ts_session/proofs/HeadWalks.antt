@@ -1,5 +1,6 @@
 -- A walk over the bytes of a head, line by line: what is known of its lines is so of no other ones.
-use Rattle.std.proofs.Common.{◌≡◌, ◌⊎◌, ℕ, zero, suc, ◌<◌, cond, Bool, true, false, ◌&&◌, ◌||◌, List, [], ◌∷◌, ◌++◌}
+use Rattle.std.proofs.Common.{◌≡◌, ◌⊎◌, ℕ, zero, suc, ◌<◌, cond, Bool, true, false, ◌&&◌, ◌||◌, List, [], ◌∷◌}
+use Rattle.std.proofs.Common.{◌++◌}
 use Rattle.std.proofs.Common.{length, take, inl, inr, ⊎_elim, refl, sym, ap, subst, ◌∙◌, arith, append_assoc}
 use Rattle.std.specs.Prelude.{◌==◌, not, codes}
 use Rattle.std.specs.List.{list_any}
@@ -10,12 +11,13 @@ use Rattle.std.proofs.lemmas.List.{append-nil, nil_from_length, take-take}
 use Rattle.ts_link.specs.Texts.{line_feed}
 use Rattle.ts_session.specs.Kept.{AreLines, IsLine, IsOtherLine, close_line, empty_line, field, is_bodiless}
 use Rattle.ts_session.specs.Kept.{lacks_feed, status, tells_end}
-use Rattle.ts_session.specs.Lines.{BeginsLine, HasEnded, IsInHead, LinesBefore, ShowsHead, agrees, may_drop_at}
+use Rattle.ts_session.specs.Lines.{BeginsLine, HasEnded, IsInHead, LinesBefore, ShowsHead, agrees}
+use Rattle.ts_session.specs.Lines.{may_drop_at}
 use Rattle.ts_session.specs.declared.lines.Lines.{Lines}
 use Rattle.ts_session.proofs.LineFronts.{agreed_front}
 
--- How far a head is: in its status line, or in a line behind that; whether its lines told where the response ends;
--- and what there is of the line that was begun. Or it has ended, or had its `connection: close`.
+-- How far a head is: in its status line, or in a line behind that; whether its lines told where the response
+-- ends; and what there is of the line that was begun. Or it has ended, or had its `connection: close`.
 data Walk : Type 0 where
   going : Bool → Bool → List ℕ → Walk
   over : Walk

@@ -1,10 +1,12 @@
 -- A line of a head that is held while it may be the one that is dropped, is dropped, or is owed after all.
-use Rattle.std.proofs.Common.{◌≡◌, ◌⊎◌, ℕ, zero, suc, ◌+◌, ◌-◌, ◌<◌, ◌≤◌, Bool, true, false, ◌||◌, List, [], ◌∷◌, ◌++◌}
+use Rattle.std.proofs.Common.{◌≡◌, ◌⊎◌, ℕ, zero, suc, ◌+◌, ◌-◌, ◌<◌, ◌≤◌, Bool, true, false, ◌||◌, List, []}
+use Rattle.std.proofs.Common.{◌∷◌, ◌++◌}
 use Rattle.std.proofs.Common.{length, take, drop, min, inl, inr, refl, sym, ap, subst, ⊎_elim, ◌∙◌, arith}
 use Rattle.std.proofs.Common.{append_assoc}
 use Rattle.std.specs.Prelude.{◌==◌, nat_lt}
 use Rattle.std.specs.List.{slice_range}
-use Rattle.std.proofs.lemmas.Bool.{and_parts, cases_lt, cond-false, cond-true, eqb-true, le-ltb, lt-ltb, or_left}
+use Rattle.std.proofs.lemmas.Bool.{and_parts, cases_lt, cond-false, cond-true, eqb-true, le-ltb, lt-ltb}
+use Rattle.std.proofs.lemmas.Bool.{or_left}
 use Rattle.std.proofs.lemmas.Bool.{or_right}
 use Rattle.std.proofs.lemmas.List.{append-nil, drop-drop, length-drop, length-take}
 use Rattle.std.proofs.lemmas.List.{take_at}
@@ -13,7 +15,8 @@ use Rattle.ts_link.specs.Link.{Look}
 use Rattle.ts_link.specs.LinkAnswers.{PutsSome, count_put, put_again, put_failed}
 use Rattle.ts_link.specs.declared.link.Put.{Put}
 use Rattle.ts_link.specs.declared.link.Put.TheVariants as P
-use Rattle.ts_session.specs.Course.{HoldsResponse, IsOwing, IsWithin, RespondsBy, TookSent, has_found, line_at}
+use Rattle.ts_session.specs.Course.{HoldsResponse, IsOwing, IsWithin, RespondsBy, TookSent, has_found}
+use Rattle.ts_session.specs.Course.{line_at}
 use Rattle.ts_session.specs.Course.{since, written_by}
 use Rattle.ts_session.specs.Kept.{close_line}
 use Rattle.ts_session.specs.Lines.{BeginsLine, GoesOver, ShowsHead, agrees, may_drop_at}

@@ -1,19 +1,23 @@
 -- The line of a head that was begun, byte by byte.
 use Rattle.std.proofs.Common.{◌≡◌, ℕ, zero, suc, ◌<◌, ◌≤◌, Bool, true, false, ◌&&◌, ◌||◌, List, []}
-use Rattle.std.proofs.Common.{◌∷◌, ◌++◌, length, get_or, min, take, inl, inr, ⊎_elim, refl, sym, ap, subst, ◌∙◌}
+use Rattle.std.proofs.Common.{◌∷◌, ◌++◌, length, get_or, min, take, inl, inr, ⊎_elim, refl, sym, ap, subst}
+use Rattle.std.proofs.Common.{◌∙◌}
 use Rattle.std.proofs.Common.{arith}
 use Rattle.std.proofs.Common.{length-append}
 use Rattle.std.specs.Prelude.{◌==◌, ◌≢◌, codes, nat_le}
 use Rattle.std.specs.List.{list_any}
-use Rattle.std.proofs.lemmas.Bool.{and_from, and_parts, cases_lt, eq-eqb, eqb-true, le-leb, leb-true, or_cases}
+use Rattle.std.proofs.lemmas.Bool.{and_from, and_parts, cases_lt, eq-eqb, eqb-true, le-leb, leb-true}
+use Rattle.std.proofs.lemmas.Bool.{or_cases}
 use Rattle.std.proofs.lemmas.Bool.{or_left, or_parts, or_right}
 use Rattle.std.proofs.Math.Bool.{and_assoc}
 use Rattle.std.proofs.lemmas.List.{append-nil, append_assoc}
 use Rattle.ts_lists.proofs.Fronts.{same_fronts}
 use Rattle.ts_link.specs.Texts.{line_feed}
-use Rattle.ts_session.specs.Kept.{AreLines, IsLine, IsOtherLine, begins, close_line, empty_line, field, is_bodiless}
+use Rattle.ts_session.specs.Kept.{AreLines, IsLine, IsOtherLine, begins, close_line, empty_line, field}
+use Rattle.ts_session.specs.Kept.{is_bodiless}
 use Rattle.ts_session.specs.Kept.{lacks_feed, status, tells_end}
-use Rattle.ts_session.specs.Lines.{GoesOver, HasEnded, IsFront, IsInHead, IsLast, LinesBefore, ShowsHead, agrees}
+use Rattle.ts_session.specs.Lines.{GoesOver, HasEnded, IsFront, IsInHead, IsLast, LinesBefore, ShowsHead}
+use Rattle.ts_session.specs.Lines.{agrees}
 use Rattle.ts_session.specs.Lines.{front_bodiless}
 use Rattle.ts_session.specs.Lines.{front_last, front_tells, new_front}
 use Rattle.ts_session.specs.declared.lines.LineFront.{LineFront}
@@ -133,7 +137,8 @@ same_tests true b on back = sym (on refl)
 same_tests false true on back = back refl
 same_tests false false on back = refl
 
--- a text with no line feed stands at the front of a line that ends exactly where the line goes with it and is as long
+-- a text with no line feed stands at the front of a line that ends exactly where the line goes with it and is
+-- as long
 begun_agrees : (text line : List ℕ) → lacks_feed text → begins text (ended line) ≡ true
     → (agrees text line ≡ true) × (length text ≤ length line)
 begun_agrees [] line open_text begun = (refl, omega arith)

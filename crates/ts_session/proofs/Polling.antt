@@ -11,7 +11,7 @@ use Rattle.ts_session.specs.Reading.{IsUnread, Polls}
 use Rattle.ts_session.specs.declared.course.Polled.TheVariants as P
 use Rattle.ts_session.specs.declared.request.Reading.TheVariants as R
 use Rattle.ts_session.specs.declared.request.Request.{Request}
-use Rattle.ts_session.proofs.Giving.{filled_ended, filled_fails, filled_known, filled_more}
+use Rattle.ts_session.proofs.Giving.{filled_fails, filled_known, filled_more, filled_rests}
 use Rattle.ts_session.proofs.Giving.{filled_waits, is_head_stage, moves_none}
 
 -- something is held
@@ -44,11 +44,11 @@ module _ (tells : Bool) (r : Request) (held' : List ℕ) (l m : Look) (stage : r
   still_none is = is ∙ append-nil r.held ∙ none
 
   pub end_polls : FillsFrom tells r.held held' l m G.End
-      → Polls tells r (record r { held = held'; reading = R.Open }) l m P.End
+      → Polls tells r (record r { held = held' }) l m P.End
   end_polls fills = record {
     holds = (still_none fills.held_is, fills.reads.ends);
-    moves = filled_ended tells r held' l m stage head fills;
-    unread = tt;
+    moves = (filled_rests tells r held' l m stage head fills).0;
+    unread = inl (ap is_head stage);
   }
 
   pub again_polls : FillsFrom tells r.held held' l m G.Again

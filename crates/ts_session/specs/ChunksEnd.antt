@@ -1,7 +1,8 @@
 -- Where a body in chunks ends, as a function of its bytes (RFC 9112, section 7.1): all ways to cut them are
 -- tried.
 use Rattle.std.specs.Prelude.{◌≡◌, ℕ, zero, suc, ◌+◌, ◌≤◌, Bool, true, false, ◌&&◌, ◌||◌, List, [], ◌∷◌, ◌++◌}
-use Rattle.std.specs.Prelude.{length, take, drop, Option, Some, None, if◌then◌else◌, ◌==◌, nat_lt, nat_le, bytes_eq}
+use Rattle.std.specs.Prelude.{length, take, drop, Option, Some, None, if◌then◌else◌, ◌==◌, nat_lt, nat_le}
+use Rattle.std.specs.Prelude.{bytes_eq}
 use Rattle.std.specs.List.{list_all}
 use Rattle.std.specs.Char.{is_ascii_hexdigit}
 use Rattle.std.specs.Str.Parse.{digits_value}
@@ -21,7 +22,8 @@ unfoldable pub is_extension_end : List ℕ → Bool
 is_extension_end [] = false
 is_extension_end (b ∷ bytes) =
     bytes_eq (b ∷ bytes) crlf_bytes
-    || ((b == semicolon) && cuts (λ text end. list_all is_extension_byte text && bytes_eq end crlf_bytes) bytes)
+    || ((b == semicolon) && cuts (λ text end. list_all is_extension_byte text && bytes_eq end crlf_bytes)
+    bytes)
 
 -- what follows the size in its line
 unfoldable pub is_size_end : List ℕ → Bool

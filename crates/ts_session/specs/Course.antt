@@ -62,8 +62,8 @@ fresh_request chunks held = record {
   asks_head = false;
 }
 
--- so many of the first bytes are the body of a request that ends so: as many as its head says, or a whole body
--- in chunks
+-- so many of the first bytes are the body of a request that ends so: as many as its head says, or a whole
+-- body in chunks
 abbrev pub HasBodyOf : RequestEnd → ℕ → List ℕ → Type 0
 HasBodyOf (E.Sized n) size bytes = size ≡ n
 HasBodyOf E.Chunked size bytes = (size ≤ length bytes) × IsBodyBy E.Chunked (take size bytes)

@@ -41,8 +41,8 @@ pub record Decides (old new : Request) : Type 0 where
   pub stands : (left : List ℕ) → StandsBy new.reading new [] left
   pub unread : (is_head new.reading ≡ true) ⊎ (0 < length new.held)
 
--- The last so many bytes that are held were looked at, of a request whose body comes in chunks: it goes on, or
--- it is known where it ends, or all that the client gives belongs to it.
+-- The last so many bytes that are held were looked at, of a request whose body comes in chunks: it goes on,
+-- or it is known where it ends, or all that the client gives belongs to it.
 pub record GoesOnChunked (fresh : ℕ) (old new : Request) : Type 0 where
   pub held_is : new.held ≡ old.held
   pub known : is_head new.reading ≡ false

@@ -1,5 +1,5 @@
--- The first request of a client's bytes, as a function of them (RFC 9112, sections 2 to 6): all ways to cut them
--- are tried.
+-- The first request of a client's bytes, as a function of them (RFC 9112, sections 2 to 6): all ways to cut
+-- them are tried.
 use Rattle.std.specs.Prelude.{◌≡◌, ℕ, zero, suc, ◌+◌, Bool, true, false, ◌&&◌, ◌||◌, List, [], ◌∷◌, ◌++◌}
 use Rattle.std.specs.Prelude.{length, map, take, Option, Some, None, ◌==◌, nat_lt, nat_le, bytes_eq}
 use Rattle.std.specs.List.{list_all}
@@ -89,8 +89,8 @@ take_to None bytes = bytes
 abbrev pub first_request : List ℕ → List ℕ
 first_request bytes = take_to (request_end bytes) bytes
 
--- THE LAW: it is the whole request at the front of the bytes, whatever follows; and where there is none, it is
--- all of them
+-- THE LAW: it is the whole request at the front of the bytes, whatever follows; and where there is none, it
+-- is all of them
 pub record FindsFirst : Type 0 where
   pub whole : (first more : List ℕ) → IsRequest first → first_request (first ++ more) ≡ first
   pub lacks : (bytes : List ℕ) → LacksWhole bytes → first_request bytes ≡ bytes

@@ -1,5 +1,6 @@
 -- What is done with the bytes that a span holds.
-use Rattle.std.specs.Prelude.{◌≡◌, ℕ, ◌<◌, ◌≤◌, List, ◌+◌, ◌-◌, ◌++◌, ◌||◌, ◌==◌, Bool, true, length, take, drop, min}
+use Rattle.std.specs.Prelude.{◌≡◌, ℕ, ◌<◌, ◌≤◌, List, ◌+◌, ◌-◌, ◌++◌, ◌||◌, ◌==◌, Bool, true, length, take}
+use Rattle.std.specs.Prelude.{drop, min}
 use Rattle.std.specs.List.{list_all}
 use Rattle.httparse.specs.Ascii.{carriage_return, line_feed}
 use Rattle.ts_wire.specs.Heads.{LacksRequest}
@@ -78,8 +79,8 @@ AreBlank bytes = list_all is_end_byte bytes ≡ true
 abbrev pub before_last : ℕ → List ℕ → List ℕ
 before_last fresh bytes = take (length bytes - fresh) bytes
 
--- No head ends within the last so many bytes, and more of one can be held: where there was none before them, there is
--- none now.
+-- No head ends within the last so many bytes, and more of one can be held: where there was none before them,
+-- there is none now.
 pub record CannotEnd (fresh : ℕ) (bytes : List ℕ) : Type 0 where
   pub short : length bytes < head_limit
   pub lacks : LacksRequest (before_last fresh bytes) → LacksRequest bytes

@@ -1,5 +1,6 @@
 -- The lines of a response's head as they are written, however they are cut.
-use Rattle.std.specs.Prelude.{◌≡◌, ◌⊎◌, ℕ, ◌-◌, ◌<◌, Bool, true, false, not, ◌&&◌, ◌||◌, List, [], ◌∷◌, ◌++◌, ◌==◌}
+use Rattle.std.specs.Prelude.{◌≡◌, ◌⊎◌, ℕ, ◌-◌, ◌<◌, Bool, true, false, not, ◌&&◌, ◌||◌, List, [], ◌∷◌, ◌++◌}
+use Rattle.std.specs.Prelude.{◌==◌}
 use Rattle.std.specs.Prelude.{length, min, take, drop, codes, nat_le}
 use Rattle.ts_session.specs.Kept.{AreLines, close_line, empty_line, lacks_feed}
 use Rattle.ts_session.specs.declared.lines.LineFront.{LineFront}
@@ -56,8 +57,9 @@ pub record ShowsHead (sent : List ℕ) (s : Lines) : Type 0 where
   pub going : s.ended ≡ false → IsInHead sent s
   pub over : s.ended ≡ true → HasEnded sent
 
--- Whole lines of a head were written, and no line of it is begun. They tell where the response ends, unless it has
--- only a head: so the next line is dropped, where it is `connection: close` and the connection may go on.
+-- Whole lines of a head were written, and no line of it is begun. They tell where the response ends, unless
+-- it has only a head: so the next line is dropped, where it is `connection: close` and the connection may go
+-- on.
 pub record BeginsLine (asks : Bool) (sent : List ℕ) : Type 0 where
   pub told : Bool
   pub are : AreLines told sent
@@ -98,20 +100,21 @@ abbrev pub front_last : LineFront → Bool
 front_last f =
     (f.closes && (f.at == length close_line - 1)) || (f.empty && (f.at == length empty_line - 1))
 
--- a line may begin here that is dropped: the head has not ended, and its lines told where the response ends, or
--- it has only a head
+-- a line may begin here that is dropped: the head has not ended, and its lines told where the response ends,
+-- or it has only a head
 abbrev pub may_drop_at : Lines → Bool → Bool
 may_drop_at s asks = (s.front.at == 0) && (not s.first && (not s.ended && (s.told || asks)))
 
--- No front of the bytes, of more than none and fewer than so many, ends where a line begins that may be dropped, and
--- has the line or a front of it behind it.
+-- No front of the bytes, of more than none and fewer than so many, ends where a line begins that may be
+-- dropped, and has the line or a front of it behind it.
 abbrev pub PassesNoLine : Bool → Lines → List ℕ → ℕ → Type 0
 PassesNoLine asks s bytes count =
-    (sent : List ℕ) → ShowsHead sent s → (at : ℕ) → 0 < at → at < count → BeginsLine asks (sent ++ take at bytes)
+    (sent : List ℕ) → ShowsHead sent s → (at : ℕ) → 0 < at → at < count → BeginsLine asks
+    (sent ++ take at bytes)
     → agrees close_line (drop at bytes) ≡ false
 
--- The client took whole lines of a head, then the line was dropped, and the client took what follows. The lines
--- tell where the response ends, unless it has only a head.
+-- The client took whole lines of a head, then the line was dropped, and the client took what follows. The
+-- lines tell where the response ends, unless it has only a head.
 pub record IsCut (asks : Bool) (start cut taken : List ℕ) : Type 0 where
   pub lines : List ℕ
   pub told : Bool

@@ -92,13 +92,8 @@ PollsHeld tells _ r l = r.held ≡ []
 abbrev pub IsUnread : Request → Type 0
 IsUnread r = (is_head r.reading ≡ true) ⊎ (0 < length r.held)
 
--- the next poll is allowed too, unless the client has ended
-abbrev pub StaysUnread : Polled → Request → Type 0
-StaysUnread P.End r = ⊤
-StaysUnread _ r = IsUnread r
-
--- a poll: one read of the client at most, of which nothing is given on
+-- a poll: one read of the client at most, of which nothing is given on, so that the next one is allowed too
 pub record Polls (tells : Bool) (r r' : Request) (l l' : Look) (answer : Polled) : Type 0 where
   pub holds : PollsHeld tells answer r' l'
   pub moves : MovesOn tells r r' l l' (poll_failed answer) (poll_again answer) []
-  pub unread : StaysUnread answer r'
+  pub unread : IsUnread r'

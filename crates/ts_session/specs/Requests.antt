@@ -1,5 +1,6 @@
 -- The requests of a client's connection, one behind the other (RFC 9112, sections 6 and 9.3).
-use Rattle.std.specs.Prelude.{◌≡◌, ℕ, Bool, not, ◌&&◌, List, [], ◌∷◌, ◌++◌, map, length, ◌==◌, codes, bytes_eq, ◌⊎◌, None}
+use Rattle.std.specs.Prelude.{◌≡◌, ℕ, Bool, not, ◌&&◌, List, [], ◌∷◌, ◌++◌, map, length, ◌==◌, codes}
+use Rattle.std.specs.Prelude.{bytes_eq, ◌⊎◌, None}
 use Rattle.httparse.specs.Grammar as grammar
 use Rattle.ts_wire.specs.Body.{IsEndedChunked}
 use Rattle.ts_wire.specs.Forward.{is_option}
@@ -55,8 +56,8 @@ pub data GivesAll (bytes : List ℕ) : Type 0 where
   chunks : (h : grammar.RequestHead) (rest : List ℕ) → BeginsWithRequest bytes h rest
       → end_of_request h ≡ E.Chunked → chunks_end rest ≡ None → GivesAll bytes
 
--- the client lets the connection go on behind the answer to this request: it speaks HTTP/1.1, and no Connection
--- value has the member `close`, in any letter case
+-- the client lets the connection go on behind the answer to this request: it speaks HTTP/1.1, and no
+-- Connection value has the member `close`, in any letter case
 abbrev pub persists : grammar.RequestHead → Bool
 persists h = (h.minor == 1) && not (is_option (map kept_field h.fields) (codes "close"))
 

@@ -16,15 +16,16 @@ use Rattle.ts_session.specs.declared.response.Sending.{Sending}
 use Rattle.ts_session.specs.declared.response.Sending.TheVariants as S
 use Rattle.ts_link.specs.declared.link.Put.{Put}
 
--- what a connection took of a response: what is kept of it where the connection goes on, or else all of it but for
--- what waits
+-- what a connection took of a response: what is kept of it where the connection goes on, or else all of it
+-- but for what waits
 abbrev pub IsSent : Bool → List ℕ → List ℕ → List ℕ → Type 0
 IsSent true waits response sent = IsKept response sent
 IsSent false waits response sent = response ≡ sent ++ waits
 
 -- THE CONNECTION OF A SPAN: behind what it gave before stands the request of the span, the first of the bytes
--- there, and then whatever follows; and behind what it took before, it took the response of the span, without its
--- line `connection: close` where it goes on. Only a front of such a line may wait, within a head that has not ended.
+-- there, and then whatever follows; and behind what it took before, it took the response of the span, without
+-- its line `connection: close` where it goes on. Only a front of such a line may wait, within a head that has
+-- not ended.
 pub record IsSession (span : Look) (goes_on : Bool) (waits : List ℕ) (client : Look) : Type 0 where
   pub bytes : List ℕ
   pub gave : client.before.0 ++ all_of client ≡ span.before.0 ++ bytes
@@ -35,9 +36,9 @@ pub record IsSession (span : Look) (goes_on : Bool) (waits : List ℕ) (client :
   pub of_line : (from : ℕ) × (to : ℕ) × (waits ≡ slice_range close_line from to)
   pub within_head : HasEnded span.taken → waits ≡ []
 
--- WHERE A CONNECTION GOES ON behind a response: the request was given whole and its client lets it go on, the session
--- may carry more requests, and the lines before the one that was dropped tell where the response ends, unless it has
--- only a head.
+-- WHERE A CONNECTION GOES ON behind a response: the request was given whole and its client lets it go on, the
+-- session may carry more requests, and the lines before the one that was dropped tell where the response
+-- ends, unless it has only a head.
 pub record MayContinue (span : Look) (place : ℕ) : Type 0 where
   pub head : grammar.RequestHead
   pub request : IsRequestWith head span.given
@@ -51,16 +52,18 @@ pub record MayContinue (span : Look) (place : ℕ) : Type 0 where
   pub behind : List ℕ
   pub response_is : span.taken ≡ lines ++ (close_line ++ behind)
 
--- WHERE THE LINE IS DROPPED, in one write of the response: where the request was given whole and its client lets the
--- connection go on, and the session may carry more requests, as the first byte of the line is written.
-pub record DropsLine (span : Look) (place : ℕ) (old new : Sending) (answer : Put) (piece : List ℕ) : Type 0 where
-  pub goes_on : (count : ℕ) → old ≡ S.Line count → agrees (drop count close_line) piece ≡ true
-      → HoldsMore count new answer piece
-  pub finds : (head : grammar.RequestHead) → IsRequestWith head span.given → persists head ≡ true
-      → place < most_places → FindsLine (asks_head head) span.taken new answer piece
+-- WHERE THE LINE IS DROPPED, in one write of the response: where the request was given whole and its client
+-- lets the connection go on, and the session may carry more requests, as the first byte of the line is
+-- written.
+pub record DropsLine (span : Look) (place : ℕ) (old new : Sending) (answer : Put) (piece : List ℕ) : Type 0
+  where
+    pub goes_on : (count : ℕ) → old ≡ S.Line count → agrees (drop count close_line) piece ≡ true
+        → HoldsMore count new answer piece
+    pub finds : (head : grammar.RequestHead) → IsRequestWith head span.given → persists head ≡ true
+        → place < most_places → FindsLine (asks_head head) span.taken new answer piece
 
--- THE NEXT SPAN of a connection: it begins where this one ended, behind a whole request and behind what is kept
--- of its response, and shows none of either
+-- THE NEXT SPAN of a connection: it begins where this one ended, behind a whole request and behind what is
+-- kept of its response, and shows none of either
 pub record GoesBehind (span next : Look) : Type 0 where
   pub request : IsRequest span.given
   pub no_left : span.left ≡ []

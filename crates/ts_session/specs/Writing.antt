@@ -1,5 +1,6 @@
 -- What writes to a span do to its response and to its client.
-use Rattle.std.specs.Prelude.{◌≡◌, ◌⊎◌, ℕ, ◌+◌, ◌-◌, ◌<◌, ◌≤◌, Bool, true, false, ◌||◌, List, ◌++◌, length, take, drop, min}
+use Rattle.std.specs.Prelude.{◌≡◌, ◌⊎◌, ℕ, ◌+◌, ◌-◌, ◌<◌, ◌≤◌, Bool, true, false, ◌||◌, List, ◌++◌, length}
+use Rattle.std.specs.Prelude.{take, drop, min}
 use Rattle.std.specs.Prelude.{slice_range, ⊤}
 use Rattle.ts_link.specs.Counts.{Counted}
 use Rattle.ts_link.specs.Link.{Look, MayReplace}
@@ -31,22 +32,23 @@ pub record LeavesBy (tells : Bool) (l l' : Look) (failed waited : Bool) : Type 0
 abbrev pub LeavesClient : Bool → Look → Look → Put → Type 0
 LeavesClient tells l l' answer = LeavesBy tells l l' (put_failed answer) (put_again answer)
 
--- Want of memory leaves all as it was, unless a line was found that may be dropped: some of what was owed may be
--- out then.
+-- Want of memory leaves all as it was, unless a line was found that may be dropped: some of what was owed may
+-- be out then.
 abbrev pub LeavesAll : Put → Response → Response → Look → Look → Look → Look → Type 0
 LeavesAll P.NoMemory p p' cut cut' l l' =
     ((p' ≡ p) × (cut' ≡ cut) × (l' ≡ l)) ⊎ (has_found p.sending ≡ true)
 LeavesAll _ p p' cut cut' l l' = ⊤
 
 -- what was taken of the piece was written behind what was written before, and the response holds
-pub record TakesOn (asks tells : Bool) (start : List ℕ) (p p' : Response) (cut cut' l l' : Look) (answer : Put)
+pub record TakesOn (asks tells : Bool) (start : List ℕ) (p p' : Response) (cut cut' l l' : Look)
+    (answer : Put)
     (piece : List ℕ) : Type 0 where
   pub written : tells ≡ true → written_by p'.sending start cut'.taken l'.taken
       ≡ written_by p.sending start cut.taken l.taken ++ take (count_put answer) piece
   pub holds : HoldsResponse tells asks start cut'.taken p' l'
 
--- One write of the response, to a client that is seen so, and as it was when the line was dropped. A line is found
--- only where it may be.
+-- One write of the response, to a client that is seen so, and as it was when the line was dropped. A line is
+-- found only where it may be.
 pub record WritesOn (tells may asks : Bool) (p p' : Response) (cut cut' l l' : Look) (answer : Put)
     (piece : List ℕ) : Type 0 where
   pub takes : PutsSome answer (length piece)
@@ -58,20 +60,22 @@ pub record WritesOn (tells may asks : Bool) (p p' : Response) (cut cut' l l' : L
 
 -- ---- where the line is dropped
 
--- behind so much of the line that is held the piece has more of it: that is held too, or dropped with the rest
+-- behind so much of the line that is held the piece has more of it: that is held too, or dropped with the
+-- rest
 pub record HoldsMore (count : ℕ) (new : Sending) (answer : Put) (piece : List ℕ) : Type 0 where
   pub answer_is : answer ≡ P.Took (min (length piece) (length close_line - count))
   pub held : new ≡ line_at (count + min (length piece) (length close_line - count))
 
--- Where the connection may go on: a piece that has the line, or a front of it, where a line begins, is not passed
--- on; and no write takes more than what stands before it in its piece.
+-- Where the connection may go on: a piece that has the line, or a front of it, where a line begins, is not
+-- passed on; and no write takes more than what stands before it in its piece.
 pub record FindsLine (asks : Bool) (written : List ℕ) (new : Sending) (answer : Put) (piece : List ℕ)
     : Type 0 where
   pub begins : BeginsLine asks written → agrees close_line piece ≡ true → HoldsMore 0 new answer piece
   pub stops : (front rest : List ℕ) → piece ≡ front ++ rest → 0 < length front
       → BeginsLine asks (written ++ front) → agrees close_line rest ≡ true → count_put answer ≤ length front
 
--- WHERE THE LINE IS DROPPED: where the connection may go on as its first byte is written, and all of it is written
+-- WHERE THE LINE IS DROPPED: where the connection may go on as its first byte is written, and all of it is
+-- written
 pub record DropsOn (tells may asks : Bool) (p p' : Response) (cut l : Look) (answer : Put) (piece : List ℕ)
     : Type 0 where
   pub goes_on : (count : ℕ) → p.sending ≡ S.Line count → agrees (drop count close_line) piece ≡ true

@@ -8,8 +8,8 @@ fn is_end_byte(b: u8) -> bool
     b == b'\r' || b == b'\n'
 }
 
-// Whether the byte at this place is of an empty line too, where all before it are. A CR behind a CR is not, since
-// no line feed makes the two an empty line.
+// Whether the byte at this place is of an empty line too, where all before it are. A CR behind a CR is not,
+// since no line feed makes the two an empty line.
 fn goes_on_blank(bytes: &[u8], at: usize) -> bool
     requires { at < length bytes.now }
     ensures { result ≡ true → is_end_byte (get_or bytes.now at 0) ≡ true }

@@ -15,8 +15,8 @@ use httparse::Status;
 use httparse::spans::{EMPTY_HEADER_SPAN, HeaderSpan, parse_request};
 use ts_wire::{MAX_FIELDS, MAX_HEAD, RequestEnd, request_end, trim};
 
-// A head of so many bytes, and what it says: where the request ends, whether its client lets the connection go
-// on, and whether it asks for the head of an answer alone.
+// A head of so many bytes, and what it says: where the request ends, whether its client lets the connection
+// go on, and whether it asks for the head of an answer alone.
 #[derive(Clone, Copy)]
 pub(crate) struct FoundHead {
     pub used: usize,

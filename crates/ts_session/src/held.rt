@@ -1,5 +1,6 @@
 //! The bytes that a client gave and that were not given on yet.
-ghost use Rattle.std.specs.Prelude.{◌≡◌, ◌<◌, ◌≤◌, ◌++◌, ◌-◌, [], length, min, take, true, false, slice_range, IfOk};
+ghost use Rattle.std.specs.Prelude.{◌≡◌, ◌<◌, ◌≤◌, ◌++◌, ◌-◌, [], length, min, take, true, false};
+ghost use Rattle.std.specs.Prelude.{slice_range, IfOk};
 ghost use Rattle.ts_link.specs.LinkAnswers.{count_got};
 ghost use Rattle.ts_session.specs.Held.{CannotEnd, CopiesMost, FillsFrom, GivesFront, ReadsBehind};
 ghost use Rattle.ts_wire.specs.Limits.{head_limit};
@@ -158,9 +159,9 @@ impl Held {
         count
     }
 
-    // Whether a head may end within the last `fresh` bytes that are held, or no more of it can be held. A head
-    // ends with a line feed, and not among the empty lines ahead of it. So one that comes byte by byte is read
-    // once a line, and not at each byte nor at each of the empty lines.
+    // Whether a head may end within the last `fresh` bytes that are held, or no more of it can be held. A
+    // head ends with a line feed, and not among the empty lines ahead of it. So one that comes byte by byte
+    // is read once a line, and not at each byte nor at each of the empty lines.
     pub(crate) fn may_end(&self, fresh: usize) -> bool
         requires { fresh ≤ length self.now }
         ensures { result ≡ false → CannotEnd fresh self.now }

@@ -5,10 +5,10 @@
 //! # What goes where
 //!
 //! `Span` is a client's link that gives the bytes of one request alone, and then its end. It finds where the
-//! request ends off its head and, where its body comes in chunks, off these. What came behind that is held for
-//! the next span. Of the head that is written to it the line `connection: close` is dropped where the
-//! connection may go on behind this answer. Where a piece ends within a line that may be that one, the front of
-//! it is held until it is known. `next` turns a span whose line was dropped into that of the next request.
+//! request ends off its head and, where its body comes in chunks, off these. What came behind that is held
+//! for the next span. Of the head that is written to it the line `connection: close` is dropped where the
+//! connection may go on behind this answer. Where a piece ends within a line that may be that one, the front
+//! of it is held until it is known. `next` turns a span whose line was dropped into that of the next request.
 //! `Spanned` is the link to an origin that such a client belongs to.
 #![tactic(auto)]
 

@@ -1,5 +1,6 @@
 //! The lines of a response's head as they are written, however they are cut.
-ghost use Rattle.std.specs.Prelude.{◌≡◌, ◌≢◌, ◌∷◌, ◌+◌, ◌++◌, ◌||◌, ◌&&◌, ◌<◌, ◌≤◌, ℕ, List, [], drop, false, true, length, min};
+ghost use Rattle.std.specs.Prelude.{◌≡◌, ◌≢◌, ◌∷◌, ◌+◌, ◌++◌, ◌||◌, ◌&&◌, ◌<◌, ◌≤◌, ℕ, List, [], drop, false};
+ghost use Rattle.std.specs.Prelude.{true, length, min};
 ghost use Rattle.ts_session.specs.Kept.{close_line};
 ghost use Rattle.ts_link.specs.Texts.{line_feed};
 ghost use Rattle.ts_session.specs.Lines.{GoesOver, IsFront, PassesNoLine, agrees, front_bodiless, front_last};
@@ -21,8 +22,8 @@ pub(crate) const CLOSE_LINE: &[u8] = b"connection: close\r\n";
 
 const EMPTY_LINE: &[u8] = b"\r\n";
 
-/// A line that was begun: how many of its bytes were written, up to as many as are looked at, and which lines it
-/// may still become.
+/// A line that was begun: how many of its bytes were written, up to as many as are looked at, and which lines
+/// it may still become.
 #[derive(Clone, Copy)]
 pub struct LineFront {
     pub at: usize,
@@ -149,8 +150,8 @@ impl Lines {
         }
     }
 
-    // Whether a line may begin here that is dropped: the head has not ended, and its lines told where the response
-    // ends, or it has only a head.
+    // Whether a line may begin here that is dropped: the head has not ended, and its lines told where the
+    // response ends, or it has only a head.
     pub(crate) fn may_drop(self, asks_head: bool) -> bool
         ensures { result ≡ may_drop_at self asks_head }
     {
@@ -236,8 +237,8 @@ impl Lines {
         at > 0 && self.finds(bytes.split_at(at).1, asks_head)
     }
 
-    // How many of the bytes are written before a line that may be dropped, or a front of it: all of them, where
-    // there is none.
+    // How many of the bytes are written before a line that may be dropped, or a front of it: all of them,
+    // where there is none.
     pub(crate) fn passing(self, bytes: &[u8], asks_head: bool) -> usize
         requires { 0 < length bytes.now }
         ensures some { 0 < result }

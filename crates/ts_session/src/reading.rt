@@ -247,10 +247,7 @@ pub(crate) fn poll_request<C: Sourced>(client: &mut C, request: &mut Request) ->
             request.decide(count);
             Polled::Some
         }
-        Got::End => {
-            request.reading = Reading::Open;
-            Polled::End
-        }
+        Got::End => Polled::End,
         Got::Again => Polled::Again,
         Got::Failed => Polled::Failed,
     }

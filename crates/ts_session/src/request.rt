@@ -33,8 +33,8 @@ pub struct Request {
     // Of a body in chunks: how far it is.
     pub(crate) chunks: Chunks,
     pub(crate) reading: Reading,
-    // Of a request of which it is known where it ends: whether its client lets the connection go on, and whether
-    // it asks for the head of an answer alone.
+    // Of a request of which it is known where it ends: whether its client lets the connection go on, and
+    // whether it asks for the head of an answer alone.
     pub(crate) persists: bool,
     pub(crate) asks_head: bool,
 }

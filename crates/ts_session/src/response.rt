@@ -14,8 +14,8 @@ pub enum Sending {
     Head,
     /// So many bytes of a line `connection: close` that may be dropped were written, and are held.
     Line(usize),
-    /// What was held is of another line: the bytes of `connection: close` from one place to another are owed to the
-    /// client.
+    /// What was held is of another line: the bytes of `connection: close` from one place to another are owed
+    /// to the client.
     Owed { from: usize, to: usize },
     /// Its line `connection: close` was dropped.
     Dropped,

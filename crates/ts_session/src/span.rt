@@ -6,7 +6,7 @@ ghost use Rattle.ts_link.specs.LinkAnswers.{writes_after};
 ghost use Rattle.ts_session.specs.Course.{IsSound, SpanGoes, before_client, is_dropped, may_go_on, span_look};
 ghost use Rattle.ts_session.specs.Course.{span_on, span_same, span_still, waiting};
 ghost use Rattle.ts_session.specs.Limits.{most_places};
-ghost use Rattle.ts_session.specs.Reading.{IsUnread, PollsHeld, StaysUnread, poll_again, poll_failed};
+ghost use Rattle.ts_session.specs.Reading.{IsUnread, PollsHeld, poll_again, poll_failed};
 ghost use Rattle.ts_session.specs.Session.{DropsLine, EndsSpan, GoesBehind, IsNew, IsSession, MayContinue};
 ghost use Rattle.ts_session.specs.Session.{PollsSpan};
 
@@ -39,8 +39,8 @@ impl<C: Sourced> Model for Span<C> {
 }
 
 impl<C: Sourced + Drop> Span<C> {
-    /// The span of a client's first request. It takes all the memory that it and the spans behind it ever need:
-    /// the rooms of a head and of a trailer section, of 16,384 bytes each.
+    /// The span of a client's first request. It takes all the memory that it and the spans behind it ever
+    /// need: the rooms of a head and of a trailer section, of 16,384 bytes each.
     pub fn make(alloc: Global, client: C) -> Result<Span<C>, NoMemory>
         ensures { IfOk result (λ s. IsNew C.look C.tells client s) }
     {
@@ -63,14 +63,14 @@ impl<C: Sourced + Drop> Span<C> {
         Ok(Span { course })
     }
 
-    /// Looks for the request, of which nothing was given: reads the client once at most, where no byte of it is
-    /// held. `Some` where one is held then, and `End` where nothing is left of it. It takes no memory.
+    /// Looks for the request, of which nothing was given: reads the client once at most, where no byte of it
+    /// is held. `Some` where one is held then, and `End` where nothing is left of it. It takes no memory.
     pub fn poll(&mut self) -> Polled
         requires unread { IsUnread self.old.request }
         ensures holds { PollsHeld C.tells result self.new.request (C.look self.new.client) }
         ensures shows { PollsSpan C.tells (span_look C.look C.tells self.old)
             (span_look C.look C.tells self.new) (poll_failed result) (poll_again result) }
-        ensures unread { StaysUnread result self.new.request }
+        ensures unread { IsUnread self.new.request }
         ensures ends { EndsSpan result (span_look C.look C.tells self.new) }
         ensures goes { SpanGoes C.goes self.old self.new }
     {
@@ -111,9 +111,9 @@ impl<C: Sourced + Drop> Span<C> {
         }
     }
 
-    /// The client inside. It gave what came before the request, then the request, and took what came before the
-    /// response, then the response without the line that was dropped. Where the head of a response was cut within
-    /// a line that might have been dropped, it lacks the front of that line.
+    /// The client inside. It gave what came before the request, then the request, and took what came before
+    /// the response, then the response without the line that was dropped. Where the head of a response was
+    /// cut within a line that might have been dropped, it lacks the front of that line.
     pub fn into_client(self) -> C
         ensures client { result ≡ self.client }
         ensures since { (C.look result).before ≡ before_client C.look self }
@@ -133,7 +133,7 @@ fn poll_course<C: Sourced>(course: &mut Course<C>) -> Polled
     ensures holds { PollsHeld C.tells result course.new.request (C.look course.new.client) }
     ensures shows { PollsSpan C.tells (span_look C.look C.tells course.old)
         (span_look C.look C.tells course.new) (poll_failed result) (poll_again result) }
-    ensures unread { StaysUnread result course.new.request }
+    ensures unread { IsUnread course.new.request }
     ensures ends { EndsSpan result (span_look C.look C.tells course.new) }
     ensures goes { SpanGoes C.goes course.old course.new }
     ensures sound { IsSound C.look C.tells course.new }
@@ -163,8 +163,8 @@ fn read_course<C: Sourced>(course: &mut Course<C>, into: &mut [u8]) -> Got
     got
 }
 
-// Whether the line `connection: close` may be dropped, if its head tells where the response ends: the request was
-// given whole, its client lets the connection go on, and the session may carry more requests.
+// Whether the line `connection: close` may be dropped, if its head tells where the response ends: the request
+// was given whole, its client lets the connection go on, and the session may carry more requests.
 fn may_go_on(request: &Request, place: u32) -> bool
     ensures { result ≡ may_go_on request.now place }
 {

@@ -9,8 +9,8 @@ use crate::span::Span;
 use ts_link::{Got, Link, Put, Sourced};
 use ts_upstream::{Uploaded, Upstream};
 
-/// The link to an origin whose client is shown by a span: it has no upload of its own to move, and all else is the
-/// origin's.
+/// The link to an origin whose client is shown by a span: it has no upload of its own to move, and all else
+/// is the origin's.
 #[derive(Drop)]
 pub struct Spanned<O> {
     origin: O,

@@ -3,7 +3,8 @@ ghost use Rattle.std.specs.Prelude.{◌≡◌, ◌<◌, ◌≤◌, Bool, drop, f
 ghost use Rattle.ts_session.specs.Course.{IsRest, IsWithin, has_found};
 ghost use Rattle.ts_session.specs.Kept.{close_line};
 ghost use Rattle.ts_session.specs.Lines.{agrees, may_drop_at};
-ghost use Rattle.ts_session.specs.Writing.{DropsOn, HoldsMore, PaysLine, PaysTo, WritesOn, paid_again, paid_failed, paid_to};
+ghost use Rattle.ts_session.specs.Writing.{DropsOn, HoldsMore, PaysLine, PaysTo, WritesOn, paid_again};
+ghost use Rattle.ts_session.specs.Writing.{paid_failed, paid_to};
 ghost use Rattle.ts_session.specs.declared.response.Sending.{Sending};
 
 use crate::lines::{CLOSE_LINE, goes_with};
@@ -11,8 +12,8 @@ use crate::response::{Response, Sending};
 use std::snapshot::Snapshot;
 use ts_link::{Link, Put};
 
-// What is known of the request that the response answers: whether the connection may go on behind it, and whether
-// it asks for the head of an answer alone.
+// What is known of the request that the response answers: whether the connection may go on behind it, and
+// whether it asks for the head of an answer alone.
 #[derive(Clone, Copy)]
 pub(crate) struct Rule {
     pub may_go_on: bool,
@@ -45,7 +46,8 @@ fn write_lines<C: Link>(
     }
 }
 
-// Holds what the piece has of the line, of which so many bytes are held. Where it has all of it, the line is dropped.
+// Holds what the piece has of the line, of which so many bytes are held. Where it has all of it, the line is
+// dropped.
 fn hold_line<C: Link>(
     client: &C,
     response: &mut Response,

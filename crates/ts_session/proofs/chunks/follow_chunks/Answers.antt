@@ -3,7 +3,8 @@ use Rattle.std.proofs.Common.{ap, arith, drop, length, subst, sym, take, ◌∙�
 use Rattle.std.specs.List.{slice_range}
 use Rattle.std.proofs.lemmas.List.{length-drop}
 use Rattle.ts_wire.specs.Place.{GivesBody, GoesOn}
-use Rattle.ts_session.proofs.Following.{feeds_some, followed_all, followed_end, followed_never, followed_none, followed_on}
+use Rattle.ts_session.proofs.Following.{feeds_some, followed_all, followed_end, followed_never, followed_none}
+use Rattle.ts_session.proofs.Following.{followed_on}
 use Rattle.ts_session.proofs.chunks.follow_chunks.Goals as goal
 
 pub chunks-init : goal.chunks-init

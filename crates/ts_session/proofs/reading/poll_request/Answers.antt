@@ -1,6 +1,7 @@
 -- Each answer of a poll.
 use Rattle.ts_session.proofs.Giving.{filled_fresh, head_holds}
-use Rattle.ts_session.proofs.Polling.{again_polls, bytes_polls, end_polls, failed_polls, held_polls, unread_head}
+use Rattle.ts_session.proofs.Polling.{again_polls, bytes_polls, end_polls, failed_polls, held_polls}
+use Rattle.ts_session.proofs.Polling.{unread_head}
 use Rattle.ts_session.proofs.reading.poll_request.Goals as goal
 
 pub returns-then-not-is_empty-clause-polls : goal.returns-then-not-is_empty-clause-polls

@@ -1,6 +1,7 @@
 -- Each answer of one read of the client for more of a body in chunks.
 use Rattle.std.proofs.Common.{ap, arith, false, length, true}
-use Rattle.ts_session.proofs.Giving.{chunks_ended, chunks_followed, chunks_fresh, chunks_there, chunks_wait, moves_none}
+use Rattle.ts_session.proofs.Giving.{chunks_ended, chunks_followed, chunks_fresh, chunks_there, chunks_wait}
+use Rattle.ts_session.proofs.Giving.{moves_none}
 use Rattle.ts_session.proofs.reading.seek_chunks.Goals as goal
 
 pub returns-then-not-is_empty-clause-moves : goal.returns-then-not-is_empty-clause-moves

@@ -1,5 +1,6 @@
 -- No head ends among empty lines ahead of it, nor within bytes that have no line feed.
-use Rattle.std.proofs.Common.{◌≡◌, ◌∙◌, ◌-◌, ◌+◌, ◌≤◌, ℕ, List, ap, arith, drop, false, length, subst, sym, take}
+use Rattle.std.proofs.Common.{◌≡◌, ◌∙◌, ◌-◌, ◌+◌, ◌≤◌, ℕ, List, ap, arith, drop, false, length, subst, sym}
+use Rattle.std.proofs.Common.{take}
 use Rattle.std.specs.List.{list_any, slice_range}
 use Rattle.std.specs.Prelude.{◌==◌}
 use Rattle.httparse.specs.Ascii.{line_feed}
