@@ -1,6 +1,8 @@
--- How the balance are kept: as clients are in the row, while they are served, and as what is left of them is handed
--- over.
-use Rattle.std.proofs.Common.{◌≡◌, ℕ, ◌+◌, ◌<◌, ◌≤◌, ◌⊎◌, inl, inr, cond, List, [], ◌∷◌, ◌++◌, All, Bool, true, false, not, length, get_or, set, replicate, is_some, refl, sym, ap, ◌∙◌, subst, arith}
+-- How the balance are kept: as clients are in the row, while they are served, and as what is left of them is
+-- handed over.
+use Rattle.std.proofs.Common.{◌≡◌, ℕ, ◌+◌, ◌<◌, ◌≤◌, ◌⊎◌, inl, inr, cond, List, [], ◌∷◌, ◌++◌, All, Bool}
+use Rattle.std.proofs.Common.{true, false, not, length, get_or, set, replicate, is_some, refl, sym, ap, ◌∙◌}
+use Rattle.std.proofs.Common.{subst, arith}
 use Rattle.std.specs.List.{sum_by}
 use Rattle.std.proofs.lemmas.Bool.Decides.{eqb_tells, nat_tests}
 use Rattle.std.proofs.lemmas.List.{get_or-set_other, get_or-set_same, length-set}
@@ -19,7 +21,8 @@ use Rattle.ts_serve.specs.declared.connection.Connection.TheVariants.{Free, Acce
 use Rattle.ts_serve.specs.Stepping.{KeepsGiven}
 use Rattle.ts_serve.specs.Whose.{first_of, next_of, noted_of}
 use Rattle.ts_serve.specs.declared.whose.Whose.{Whose}
-use Rattle.ts_serve.specs.Balance.{IsBalanced, HasAll, HasNoMore, IsSameClient, IsSameRow, had_number, has_number, is_given, is_taken, lacked_origin, lacks_origin}
+use Rattle.ts_serve.specs.Balance.{IsBalanced, HasAll, HasNoMore, IsSameClient, IsSameRow, had_number}
+use Rattle.ts_serve.specs.Balance.{has_number, is_given, is_taken, lacked_origin, lacks_origin}
 
 -- one client more was given, under the next number
 given_next : (given x : ℕ) → within 1 (given + 1 + 1) x ≡ within 1 (given + 1) x + same (given + 1) x

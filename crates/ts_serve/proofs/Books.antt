@@ -1,25 +1,32 @@
 -- How the books of the first thread stay right: as clients come, go on with their next transactions and are
 -- handed over, step after step.
-use Rattle.std.proofs.Common.{◌≡◌, ◌≢◌, ◌∙◌, ℕ, ◌+◌, ◌<◌, ◌≤◌, inl, inr, cond, List, [], ◌∷◌, ◌++◌, All, Bool, true, false, not, length, get_or, set, replicate, is_some, refl, sym, ap, subst, arith}
+use Rattle.std.proofs.Common.{◌≡◌, ◌≢◌, ◌∙◌, ℕ, ◌+◌, ◌<◌, ◌≤◌, inl, inr, cond, List, [], ◌∷◌, ◌++◌, All, Bool}
+use Rattle.std.proofs.Common.{true, false, not, length, get_or, set, replicate, is_some, refl, sym, ap, subst}
+use Rattle.std.proofs.Common.{arith}
 use Rattle.std.specs.List.{sum_by}
 use Rattle.std.proofs.lemmas.Bool.Decides.{eqb_tells, nat_tests}
 use Rattle.std.proofs.lemmas.List.{get_or-set_other, get_or-set_same}
 use Rattle.std.proofs.lemmas.List.Elements.{All-nil, All-push}
 use Rattle.ts_link.specs.Counts.{Counted}
 use Rattle.ts_slot.specs.Views.{within}
-use Rattle.ts_txn.specs.Net.{CountsRise, GivesNobody, IsFreshNet, IsHanded, IsHandedNothing, IsNoted, NetSeen, Raised}
+use Rattle.ts_txn.specs.Net.{CountsRise, GivesNobody, IsFreshNet, IsHanded, IsHandedNothing, IsNoted, NetSeen}
+use Rattle.ts_txn.specs.Net.{Raised}
 use Rattle.ts_txn.specs.declared.net.NetCounts.{NetCounts}
 use Rattle.ts_txn.specs.declared.retired.Noted.{Noted}
 use Rattle.ts_txn.specs.declared.retired.Retired.{Retired}
 use Rattle.ts_serve.specs.Balance.{IsBalanced, IsSameClient, IsSameRow, is_given, lacked_origin, lacks_origin}
-use Rattle.ts_serve.specs.Notes.{AreBooks, AreInOrder, AreNoted, HadSessions, KeepsBooks, NotesAndDials, OthersNotes, noted_none, notes_of}
+use Rattle.ts_serve.specs.Notes.{AreBooks, AreInOrder, AreNoted, HadSessions, KeepsBooks, NotesAndDials}
+use Rattle.ts_serve.specs.Notes.{OthersNotes, noted_none, notes_of}
 use Rattle.ts_serve.specs.Stepping.{IsStartedIn}
 use Rattle.ts_serve.specs.Whose.{first_of, next_of, noted_of}
 use Rattle.ts_serve.specs.declared.connection.Connection.{Connection}
 use Rattle.ts_serve.specs.declared.connection.Connection.TheVariants.{Accepted, Free}
 use Rattle.ts_serve.specs.declared.whose.Whose.{Whose}
-use Rattle.ts_serve.proofs.Balance.{balance_anew, balance_fresh, balance_in, balance_noted, balance_out, balance_row, balance_same, counted_on, counted_one, free_sum, origins_anew, row_set, sum_push}
-use Rattle.ts_serve.proofs.Notes.{all_free, is_free, not_retired, not_twice, notes_beside, notes_push, one_accepted, one_more, order_push, was_client, was_given}
+use Rattle.ts_serve.proofs.Balance.{balance_anew, balance_fresh, balance_in, balance_noted, balance_out}
+use Rattle.ts_serve.proofs.Balance.{balance_row, balance_same, counted_on, counted_one, free_sum}
+use Rattle.ts_serve.proofs.Balance.{origins_anew, row_set, sum_push}
+use Rattle.ts_serve.proofs.Notes.{all_free, is_free, not_retired, not_twice, notes_beside, notes_push}
+use Rattle.ts_serve.proofs.Notes.{one_accepted, one_more, order_push, was_client, was_given}
 
 -- nobody has a number that comes next
 next_number : (given : ℕ) → within 1 (given + 1) (given + 1) ≡ 0

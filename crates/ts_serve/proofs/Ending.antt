@@ -1,5 +1,6 @@
 -- A transaction in a place, with its layers: how it comes there, and what is left of it.
-use Rattle.std.proofs.Common.{◌≡◌, ◌⊎◌, ◌∙◌, ◌+◌, inl, inr, ℕ, List, [], arith, Option, Some, None, Bool, true, false, is_some, refl}
+use Rattle.std.proofs.Common.{◌≡◌, ◌⊎◌, ◌∙◌, ◌+◌, inl, inr, ℕ, List, [], arith, Option, Some, None, Bool}
+use Rattle.std.proofs.Common.{true, false, is_some, refl}
 use Rattle.std.proofs.Common.{sym, ap, subst}
 use Rattle.std.specs.Prelude.{IfSome}
 use Rattle.ts_config.specs.declared.setup.TransformLine.{TransformLine}

@@ -1,5 +1,6 @@
 -- How the first thread goes on with a client whose handler was taken out of its place.
-use Rattle.std.proofs.Common.{◌≡◌, ◌≢◌, ◌∙◌, ℕ, ◌+◌, ◌<◌, inl, inr, List, ◌∷◌, Bool, true, false, Option, Some, None, get_or, length, set, is_some, refl, sym, ap, subst, arith}
+use Rattle.std.proofs.Common.{◌≡◌, ◌≢◌, ◌∙◌, ℕ, ◌+◌, ◌<◌, inl, inr, List, ◌∷◌, Bool, true, false, Option}
+use Rattle.std.proofs.Common.{Some, None, get_or, length, set, is_some, refl, sym, ap, subst, arith}
 use Rattle.std.specs.Prelude.{IfSome, IsErrAnd, Result, Ok, Err}
 use Rattle.std.specs.List.{sum_by}
 use Rattle.std.proofs.lemmas.List.{get_or-set_other, get_or-set_same, length-set}
@@ -22,7 +23,8 @@ use Rattle.ts_txn.specs.declared.retired.Retired.{Retired}
 use Rattle.ts_serve.specs.Balance.{HasAll, HasNoMore, IsSameRow}
 use Rattle.ts_serve.specs.Leaving.{BecomesOf, LeavesWhose}
 use Rattle.ts_serve.specs.Starting.{OthersStay}
-use Rattle.ts_serve.specs.Stepping.{ChangesAt, ComesNext, ComesTo, IsNextIn, IsOpened, IsStartedIn, KeepsGiven}
+use Rattle.ts_serve.specs.Stepping.{ChangesAt, ComesNext, ComesTo, IsNextIn, IsOpened, IsStartedIn}
+use Rattle.ts_serve.specs.Stepping.{KeepsGiven}
 use Rattle.ts_serve.specs.Tenants.{HoldsHandler, IsPlaceOf, MayLive, MayLiveAt}
 use Rattle.ts_serve.specs.Whose.{next_of, noted_of}
 use Rattle.ts_lists.proofs.Places.{place_once}
@@ -37,7 +39,8 @@ use Rattle.ts_serve.proofs.Balance.{all_anew, all_out, no_more_anew, no_more_out
 use Rattle.ts_serve.proofs.Books.{books_anew, books_out}
 use Rattle.ts_serve.specs.Knowledge.{DoneAndSpent, IsServing, KnowsPlace, KnowsSessions, KnownGroups}
 use Rattle.ts_serve.specs.Notes.{AreBooks, NotesAndDials, notes_of}
-use Rattle.ts_serve.proofs.Knowledge.{knows_more, knows_row, server_anew, server_goes, server_in, server_on, server_out, server_same}
+use Rattle.ts_serve.proofs.Knowledge.{knows_more, knows_row, server_anew, server_goes, server_in, server_on}
+use Rattle.ts_serve.proofs.Knowledge.{server_out, server_same}
 use Rattle.ts_thread.specs.Seats.{More}
 use Rattle.ts_txn.specs.Net.{IsHandedNothing}
 use Rattle.ts_serve.specs.Stepping.{Goes, IsFollowed, Proceeds, Waits, next_in}

@@ -1,6 +1,7 @@
 -- How the first thread goes on to know the handlers in the places, and the sessions of its server: as clients
 -- come, go on with their next transactions and are handed over, step after step.
-use Rattle.std.proofs.Common.{◌≡◌, ◌∙◌, ℕ, ◌+◌, ◌<◌, ◌≤◌, inl, inr, List, [], ◌∷◌, ◌++◌, Bool, true, false, length, get_or, set, replicate, refl, sym, ap, subst, arith}
+use Rattle.std.proofs.Common.{◌≡◌, ◌∙◌, ℕ, ◌+◌, ◌<◌, ◌≤◌, inl, inr, List, [], ◌∷◌, ◌++◌, Bool, true, false}
+use Rattle.std.proofs.Common.{length, get_or, set, replicate, refl, sym, ap, subst, arith}
 use Rattle.std.specs.Prelude.{◌≢◌}
 use Rattle.std.proofs.lemmas.Bool.Decides.{eqb_tells}
 use Rattle.std.proofs.lemmas.List.{get_or-set_other, get_or-set_same}
@@ -33,7 +34,8 @@ use Rattle.ts_serve.specs.declared.connection.Connection.{Connection}
 use Rattle.ts_serve.specs.declared.connection.Connection.TheVariants.{Accepted, Free}
 use Rattle.ts_serve.specs.declared.place.Place.{Place}
 use Rattle.ts_serve.specs.declared.whose.Whose.{Whose}
-use Rattle.ts_serve.proofs.Books.{first_notes, notes_here, notes_there, sessions_fresh, sessions_on, sessions_out, sessions_same}
+use Rattle.ts_serve.proofs.Books.{first_notes, notes_here, notes_there, sessions_fresh, sessions_on}
+use Rattle.ts_serve.proofs.Books.{sessions_out, sessions_same}
 use Rattle.ts_serve.proofs.Lived.{lived_turns}
 use Rattle.ts_serve.proofs.Notes.{all_free, is_free, is_within, not_twice, one_accepted, was_client}
 
@@ -96,6 +98,20 @@ module _ {W T A P V O : Type 0} (Fits : T → W → Type 0) (Keeps : A → T →
       knows.fits
 
   -- so its group fits these terms, as it fits those of its place
+  pub fits_young : (Sound : W → State → List Named → Type 0) (SoundOther : P → State → List Named → Type 0)
+      (only_asked is_first : V → Bool) (known : KnownGroups W A P V Q R U) (k turn made : ℕ)
+      (notes : List (Noted O)) (g : Group (Either (Place W) P) Q R (EitherTag A V) U)
+      → KnowsHandler Fits Keeps Other behind terms known k made notes
+      → IsAfter (StandsAfter (EitherFits (PlaceFits Fits Keeps) Other)) k turn g known
+      → g.cx.log.base.made ≡ made → made < last_turn
+      → FitsTerms Fits Keeps Sound Other SoundOther only_asked is_first terms g
+      → FitsTerms Fits Keeps Sound Other SoundOther only_asked is_first (behind terms notes) g
+  fits_young Sound SoundOther only_asked is_first known k turn made notes g knows after is young fits =
+      fits_other Fits Keeps Sound Other SoundOther only_asked is_first terms (behind terms notes) g fits
+      (knows_here known k made notes g knows
+      (finds_again (EitherFits (PlaceFits Fits Keeps) Other) k turn known g after) is young)
+
+  -- the same where it was found in a turn, which tells that it was made before the last one
   pub fits_behind : (Sound : W → State → List Named → Type 0) (SoundOther : P → State → List Named → Type 0)
       (only_asked is_first : V → Bool) (known : KnownGroups W A P V Q R U) (k turn made : ℕ)
       (notes : List (Noted O)) (g : Group (Either (Place W) P) Q R (EitherTag A V) U)
@@ -107,11 +123,8 @@ module _ {W T A P V O : Type 0} (Fits : T → W → Type 0) (Keeps : A → T →
       → FitsTerms Fits Keeps Sound Other SoundOther only_asked is_first (behind terms notes) g
   fits_behind Sound SoundOther only_asked is_first known k turn made notes g knows after is lived later
       bounded fits =
-      let young : made < last_turn =
-      subst (λ n. n < last_turn) is (found_young g turn lived later bounded) in
-      fits_other Fits Keeps Sound Other SoundOther only_asked is_first terms (behind terms notes) g fits
-      (knows_here known k made notes g knows
-      (finds_again (EitherFits (PlaceFits Fits Keeps) Other) k turn known g after) is young)
+      fits_young Sound SoundOther only_asked is_first known k turn made notes g knows after is
+      (subst (λ n. n < last_turn) is (found_young g turn lived later bounded)) fits
 
   module _ {C : Type 0} where
     -- ---- each handler

@@ -1,4 +1,5 @@
--- A handler that was started, or roused, was so later on, as long as nothing is forgotten and no token is lost.
+-- A handler that was started, or roused, was so later on, as long as nothing is forgotten and no token is
+-- lost.
 use Rattle.std.proofs.Common.{ℕ, ◌-◌, inl, inr, List, true}
 use Rattle.ts_journal.specs.declared.entry.Pending.{Pending}
 use Rattle.ts_journal.specs.declared.slotted.Slotted.{Ghosts}

@@ -1,5 +1,5 @@
--- Groups that nobody else has go on, turn after turn: they fit the tags that they fitted, and were made as they
--- were.
+-- Groups that nobody else has go on, turn after turn: they fit the tags that they fitted, and were made as
+-- they were.
 use Rattle.std.proofs.Common.{◌≡◌, ◌∙◌, ℕ, suc, ◌+◌, ◌<◌, List, [], ◌∷◌, All, Bool, Option, Result}
 use Rattle.std.proofs.Common.{ap, get_or, length, map, refl, subst, sym, take, arith}
 use Rattle.std.proofs.lemmas.List.Elements.{All-append, All-cons, All-nil}

@@ -13,6 +13,7 @@ mod Leftovers
 mod Serves
 mod NowStarted
 mod Cleared
+mod Closing
 mod LookedAt
 mod Follows
 mod Tried
@@ -23,3 +24,8 @@ mod Askers
 mod Ending
 mod Crossing
 mod AtPlaces
+mod InSession
+mod OwnType
+mod LeftInSession
+mod SessionAskers
+mod SessionCrossing

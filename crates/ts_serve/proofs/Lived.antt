@@ -1,7 +1,8 @@
 -- How many turns a state has that has lived.
 use Rattle.std.proofs.Common.{◌≡◌, ℕ, ◌≤◌, inl, inr, List, [], ◌∷◌, ap, arith}
 use Rattle.ts_journal.specs.declared.entry.Entry.{Entry}
-use Rattle.ts_journal.specs.declared.entry.Entry.TheVariants.{Took, Gave, Made, Set, Handled, Cancelled, Dropped, Destroyed}
+use Rattle.ts_journal.specs.declared.entry.Entry.TheVariants.{Took, Gave, Made, Set, Handled, Cancelled}
+use Rattle.ts_journal.specs.declared.entry.Entry.TheVariants.{Dropped, Destroyed}
 use Rattle.ts_journal.specs.State.{State}
 use Rattle.ts_journal.specs.Machine.{Allowed, after, IsLawful, HasLived, replay}
 

@@ -20,22 +20,22 @@ pub one_made : (v w : Whose) (s t : Bool) (m n : ℕ) → Accepted v s m ≡ Acc
 one_made v w s t m n is = cc
 
 module _ {W P Q R T U G : Type 0} (Sound : W → State → List Named → Type 0) (whose_of : W → Whose)
-    (is_ended : W → Bool) (k made : ℕ) (whose : Whose) (s : Bool) (row row' : List Connection)
+    (is_ended is_lacking : W → Bool) (k made : ℕ) (whose : Whose) (s : Bool) (row row' : List Connection)
     (old new : SeatView G (Group (Either (Place W) P) Q R T U)) (found : get_or row k Free ≡ Accepted whose s made)
   where
     -- whoever is in the row for the place is the one that was looked for there
-    pub looked_in_vain : IsLeftThere Sound whose_of is_ended whose made k old new
-        → IsLookedAt Sound whose_of is_ended k row row' old new
+    pub looked_in_vain : IsLeftThere Sound whose_of is_ended is_lacking whose made k old new
+        → IsLookedAt Sound whose_of is_ended is_lacking k row row' old new
     looked_in_vain left other anew was =
         let same : Accepted whose s made ≡ Accepted other true anew = sym found ∙ was in
         inr
-        (subst (λ (v : Whose). IsLeftThere Sound whose_of is_ended v anew k old new)
+        (subst (λ (v : Whose). IsLeftThere Sound whose_of is_ended is_lacking v anew k old new)
         (one_whose whose other s true made anew same)
-        (subst (λ (n : ℕ). IsLeftThere Sound whose_of is_ended whose n k old new)
+        (subst (λ (n : ℕ). IsLeftThere Sound whose_of is_ended is_lacking whose n k old new)
         (one_made whose other s true made anew same) left))
 
     -- and so is the one that comes out of there
-    pub looked_at : ComesTo whose_of k whose row row' new.known → IsLookedAt Sound whose_of is_ended k row row' old new
+    pub looked_at : ComesTo whose_of k whose row row' new.known → IsLookedAt Sound whose_of is_ended is_lacking k row row' old new
     looked_at comes other anew was =
         let same : Accepted whose s made ≡ Accepted other true anew = sym found ∙ was in
         inl (subst (λ (v : Whose). ComesTo whose_of k v row row' new.known)

@@ -1,6 +1,8 @@
 -- The notes of a client, one after the other, and whose they are: no two places of the row are of one client,
 -- and none that was handed over is in the row.
-use Rattle.std.proofs.Common.{◌≡◌, ◌≢◌, ◌∙◌, ℕ, zero, suc, ◌+◌, ◌<◌, ◌≤◌, ◌⊎◌, inl, inr, cond, eqb, List, [], ◌∷◌, ◌++◌, All, Bool, length, get_or, set, replicate, refl, sym, ap, subst, append-nil, arith}
+use Rattle.std.proofs.Common.{◌≡◌, ◌≢◌, ◌∙◌, ℕ, zero, suc, ◌+◌, ◌<◌, ◌≤◌, ◌⊎◌, inl, inr, cond, eqb, List, []}
+use Rattle.std.proofs.Common.{◌∷◌, ◌++◌, All, Bool, length, get_or, set, replicate, refl, sym, ap, subst}
+use Rattle.std.proofs.Common.{append-nil, arith}
 use Rattle.std.specs.List.{sum_by}
 use Rattle.std.proofs.lemmas.Bool.Decides.{eqb_tells, nat_tests}
 use Rattle.std.proofs.lemmas.List.{get_or-set_other, length-set}
@@ -161,3 +163,8 @@ module _ {C O : Type 0} (Done : Retired C O → Type 0) (misdials : ℕ) (row : 
       let once = balance.once whose.number in
       let most = within_one 1 (net.given + 1) whose.number in
       absurd (omega arith)
+
+-- where nothing can be a note, nothing was noted
+pub none_noted : {A : Type 0} (xs : List A) → All (λ x. ⊥) xs → xs ≡ []
+none_noted [] all = refl
+none_noted (x ∷ xs) all = absurd (all 0 x (omega arith))

@@ -1,5 +1,6 @@
 -- What serving a net comes to, from the server as it is opened to the balance and the account at the end.
-use Rattle.std.proofs.Common.{◌≡◌, ℕ, ◌≤◌, ◌⊎◌, inl, inr, Bool, true, List, [], replicate, length, refl, sym, ap, ◌∙◌, subst, arith}
+use Rattle.std.proofs.Common.{◌≡◌, ℕ, ◌≤◌, ◌⊎◌, inl, inr, Bool, true, List, [], replicate, length, refl, sym}
+use Rattle.std.proofs.Common.{ap, ◌∙◌, subst, arith}
 use Rattle.std.proofs.lemmas.List.{length-replicate}
 use Rattle.std.proofs.lemmas.List.Elements.{All-nil}
 use Rattle.ts_journal.specs.declared.slotted.Slotted.{Ghosts}
@@ -27,12 +28,16 @@ use Rattle.ts_serve.specs.declared.acceptor.Listening.TheVariants as listening
 use Rattle.ts_serve.specs.declared.acceptor.Served.TheVariants as served
 use Rattle.ts_serve.specs.declared.acceptor.TheConstants.{PLACES}
 use Rattle.ts_serve.specs.Balance.{IsBalanced, HasAll, HasNoMore, KeepsBalance}
-use Rattle.ts_serve.specs.Acceptor.{HasShutCause, IsAccount, IsAcceptorOf, IsNotAsked, IsOver, KeepsAcceptor, LosesNobody}
+use Rattle.ts_serve.specs.Acceptor.{HasShutCause, IsAccount, IsAcceptorOf, IsNotAsked, IsOver, KeepsAcceptor}
+use Rattle.ts_serve.specs.Acceptor.{LosesNobody}
+use Rattle.ts_serve.specs.Closing.{AreNotedSessions, KeepsSessions}
+use Rattle.ts_serve.specs.Notes.{HadSessions}
 use Rattle.ts_serve.specs.Opening.{IsNewAcceptor, IsNewServer}
-use Rattle.ts_serve.specs.Knowledge.{DoneAndSpent, IsServing, KnownGroups}
-use Rattle.ts_serve.proofs.Books.{books_fresh}
+use Rattle.ts_serve.specs.Knowledge.{DoneAndSpent, IsServing, KnownGroups, KnowsAll}
+use Rattle.ts_serve.proofs.Books.{books_fresh, noted_fresh, sessions_fresh}
 use Rattle.ts_serve.proofs.Knowledge.{server_fresh}
-use Rattle.ts_serve.specs.Served.{AreRetired, AreSessions, HasEndedFor, HasNotFailed, IsNotClosed, IsServed, served_by}
+use Rattle.ts_serve.specs.Served.{AreRetired, AreSessions, HasEndedFor, HasNotFailed, IsNotClosed, IsServed}
+use Rattle.ts_serve.specs.Served.{served_by}
 use Rattle.ts_serve.proofs.Balance.{all_fresh, balance_fresh, no_more_fresh}
 
 -- what can be split among the most threads can be split among fewer
@@ -190,19 +195,17 @@ module _ {C O : Type 0} where
         ended = tt;
       }
 
--- what the books and the sessions say of what was noted and handed over, whatever is still in the row
-pub sessions_of : {W T A P V C O : Type 0} (Fits : T → W → Type 0) (Keeps : A → T → Type 0) (Other : V → P → Type 0)
-    (behind : A → List (Noted O) → A) (Done Spent : A → Retired C O → Type 0) (Note : A → Noted O → Type 0)
-    {Q R U : Type 0} (terms : A) (known : KnownGroups W A P V Q R U) (row : List Connection) (old new : NetSeen C O)
-    → IsServing Fits Keeps Other behind Done Spent Note terms old.counts.misdials known row new
-    → AreSessions (Note terms) (λ notes. DoneAndSpent Done Spent (behind terms notes)) old new
-sessions_of Fits Keeps Other behind Done Spent Note terms known row old new was = record {
-  each = was.books.notes.each;
-  known = was.books.notes.known;
-  order = was.books.notes.order;
-  had = was.sessions.had;
-  dialed = elim was.books.notes.dialed [ inl few ↦ inl (omega (arith, few)) | inr end ↦ inr end ];
-}
+module _ {C O : Type 0} (Note : Noted O → Type 0) (Session : List (Noted O) → Retired C O → Type 0) where
+  -- what the notes and the sessions say of what was noted and handed over, whatever is still in the row
+  pub sessions_of : (row : List Connection) (old new : NetSeen C O)
+      → AreNotedSessions Note Session old.counts.misdials row new → AreSessions Note Session old new
+  sessions_of row old new was = record {
+    each = was.notes.each;
+    known = was.notes.known;
+    order = was.notes.order;
+    had = was.had;
+    dialed = elim was.notes.dialed [ inl few ↦ inl (omega (arith, few)) | inr end ↦ inr end ];
+  }
 
 -- What the threads leave of a new acceptor and of a fresh net.
 module _ {W T A P V C O : Type 0} (Fits : T → W → Type 0) (Keeps : A → T → Type 0) (Other : V → P → Type 0)
@@ -225,10 +228,23 @@ module _ {W T A P V C O : Type 0} (Fits : T → W → Type 0) (Keeps : A → T �
   whole_retired telling terms are =
       retired_of (Done terms) last.row.items old now (served_now telling terms are).books.balance
 
+  -- its notes, and the sessions that were had, of which each is done
+  sessions_now : tells ≡ true → (terms : A) → Are terms
+      → AreNotedSessions (Note terms) (λ notes. Done (behind terms notes)) old.counts.misdials last.row.items
+      now
+  sessions_now telling terms are =
+      let was = served_now telling terms are in
+      record { notes = was.books.notes; had = λ i d low. (was.sessions.had i d low).0 }
+
   pub whole_sessions : tells ≡ true → (terms : A) → Are terms
-      → AreSessions (Note terms) (λ notes. DoneAndSpent Done Spent (behind terms notes)) old now
-  whole_sessions telling terms are = sessions_of Fits Keeps Other behind Done Spent Note terms known'
-      last.row.items old now (served_now telling terms are)
+      → AreSessions (Note terms) (λ notes. Done (behind terms notes)) old now
+  whole_sessions telling terms are =
+      sessions_of (Note terms) (λ notes. Done (behind terms notes)) last.row.items old now
+      (sessions_now telling terms are)
+
+  pub whole_spent : tells ≡ true → (terms : A) → Are terms
+      → HadSessions (λ notes. Spent (behind terms notes)) now
+  whole_spent telling terms are i d low = ((served_now telling terms are).sessions.had i d low).1
 
   pub whole_served : IsAcceptorOf last now → IsOver last → LosesNobody first last old now
       → IsServed (served_by last.listening) most old now
@@ -243,6 +259,16 @@ module _ {W T A P V C O : Type 0} (Fits : T → W → Type 0) (Keeps : A → T �
   lacked_retired again after balance telling terms are =
       retired_of (Done terms) again old after
       (balance telling terms are old.counts.misdials (served_now telling terms are).books.balance)
+
+  pub lacked_sessions : (again : List Connection) (after : NetSeen C O)
+      → KeepsSessions tells behind Done Note
+      (λ terms. Are terms × KnowsAll Fits Keeps Other behind terms known' last.row.items now)
+      last.row.items now again after → tells ≡ true → (terms : A) → Are terms
+      → AreSessions (Note terms) (λ notes. Done (behind terms notes)) old after
+  lacked_sessions again after keeps_on telling terms are =
+      sessions_of (Note terms) (λ notes. Done (behind terms notes)) again old after
+      (keeps_on telling terms (are, (served_now telling terms are).sessions.knows) old.counts.misdials
+      (sessions_now telling terms are))
 
   pub lacked_served : (again : List Connection) (after : NetSeen C O) → IsAcceptorOf last now
       → IsNotAsked now after → (HasNoMore last.row.items now → HasNoMore again after)

@@ -53,8 +53,8 @@ module _ {X G T : Type 0} {d : Ghosts X G T} where
             keeps.1 keeps_other.1 joins,
       )
 
-  -- what a part of a desk knows that was split off the desk knows, and once it is joined again the desk knows what
-  -- the part knows
+  -- what a part of a desk knows that was split off the desk knows, and once it is joined again the desk knows
+  -- what the part knows
   split_knows : (old kept other : Desk X G T d) → SplitsDesk old kept other
       → More (view old.seat).known (view other.seat).known
   split_knows old kept other splits = record {

@@ -1,5 +1,6 @@
 -- Who lives in a place, from when it is let in until it has ended.
-use Rattle.std.proofs.Common.{◌≡◌, ℕ, suc, ◌+◌, ◌<◌, List, [], ◌∷◌, inl, Bool, false, refl, sym, ap, ◌∙◌, subst, arith}
+use Rattle.std.proofs.Common.{◌≡◌, ℕ, suc, ◌+◌, ◌<◌, List, [], ◌∷◌, inl, Bool, false, refl, sym, ap, ◌∙◌}
+use Rattle.std.proofs.Common.{subst, arith}
 use Rattle.std.proofs.Common.{get_or, length, set}
 use Rattle.std.proofs.lemmas.List.{get_or-set_same}
 use Rattle.ts_lists.proofs.Places.{place_once}
@@ -17,7 +18,8 @@ use Rattle.ts_group.specs.Either.{EitherFits, EitherSound, tag_of}
 use Rattle.ts_group.specs.Slot.{IsAtRest}
 use Rattle.ts_thread.specs.Tags.{GroupFits}
 use Rattle.ts_serve.specs.Places.{PlaceFits, PlaceSound}
-use Rattle.ts_serve.specs.Tenants.{FitPlacesFrom, FitsServer, FitsTerms, HasEndedIn, HasStoodIn, IsEmptyGroup, HoldsEnded, IsPlace, IsPlaceOf, MayLiveAt}
+use Rattle.ts_serve.specs.Tenants.{FitPlacesFrom, FitsServer, FitsTerms, HasEndedIn, HasStoodIn, IsEmptyGroup}
+use Rattle.ts_serve.specs.Tenants.{HoldsEnded, IsPlace, IsPlaceOf, MayLiveAt}
 use Rattle.ts_serve.specs.Tenants.{HoldsHandler, StandsAccepted}
 use Rattle.ts_serve.specs.declared.acceptor.TheConstants.{PLACES}
 use Rattle.ts_serve.specs.declared.connection.Connection.{Connection}

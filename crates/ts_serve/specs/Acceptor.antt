@@ -1,5 +1,5 @@
--- The acceptor: what the first thread keeps of the clients that come, and what each of its steps leaves of that
--- and of the net.
+-- The acceptor: what the first thread keeps of the clients that come, and what each of its steps leaves of
+-- that and of the net.
 use Rattle.std.specs.Prelude.{◌≡◌, ℕ, ◌<◌, ◌≤◌, Bool, true, false, List, length, OnOk, Result}
 use Rattle.std.specs.List.{sum_by}
 use Rattle.ts_link.specs.Counts.{Counted}
@@ -60,14 +60,15 @@ pub record HasShutCause (listening : Listening) (old new : NetCounts) : Type 0 w
   pub ends : Counted (saw_end listening) old.ends new.ends
   pub faults : Counted (saw_fault listening) old.faults new.faults
 
--- The acceptor's account of a net, which had these counts at first: no more clients came than were to, and where
--- the net gives nobody more, there is a cause.
-pub record IsAccount {C O : Type 0} (first : NetCounts) (acceptor : Acceptor) (net : NetSeen C O) : Type 0 where
+-- The acceptor's account of a net, which had these counts at first: no more clients came than were to, and
+-- where the net gives nobody more, there is a cause.
+pub record IsAccount {C O : Type 0} (first : NetCounts) (acceptor : Acceptor) (net : NetSeen C O)
+    : Type 0 where
   pub few : acceptor.came ≤ acceptor.most
   pub cause : HasShutCause acceptor.listening first net.counts
 
--- The acceptor of a net: it has a connection for each place, as many clients came as the net gave, and no more of
--- them are in the row, or were handed over.
+-- The acceptor of a net: it has a connection for each place, as many clients came as the net gave, and no
+-- more of them are in the row, or were handed over.
 pub record IsAcceptorOf {C O : Type 0} (acceptor : Acceptor) (net : NetSeen C O) : Type 0 where
   pub row : length acceptor.row.items ≡ PLACES
   pub next : acceptor.next < PLACES
@@ -79,9 +80,10 @@ pub record KeepsAccount {C O : Type 0} (old new : Acceptor) (before after : NetS
   pub most : new.most ≡ old.most
   pub account : (first : NetCounts) → IsAccount first old before → IsAccount first new after
 
--- the net was not asked for a client, nor for an origin
+-- the net was not asked for a client, nor for an origin, and was noted nothing
 pub record IsNotAsked {C O : Type 0} (old new : NetSeen C O) : Type 0 where
   pub given : new.given ≡ old.given
+  pub noted : new.noted ≡ old.noted
   pub counts : new.counts ≡ old.counts
 
 -- no client is lost on the way: if each that was given is in the row or was handed over, each is so then
@@ -99,8 +101,8 @@ KeepsDeskSome old new = (most : ℕ) × KeepsDesk old new most
 module _ {W T A P V C O : Type 0} (Fits : T → W → Type 0) (Keeps : A → T → Type 0) (Other : V → P → Type 0)
     (behind : A → List (Noted O) → A) (Done Spent : A → Retired C O → Type 0) (Note : A → Noted O → Type 0)
     (tells : Bool) {Q R U : Type 0} where
-  -- What a step of the first thread, which knew these groups and knows those, leaves of the acceptor and of the
-  -- net. Where the net tells what it was handed, it is served on, under any terms that are these.
+  -- What a step of the first thread, which knew these groups and knows those, leaves of the acceptor and of
+  -- the net. Where the net tells what it was handed, it is served on, under any terms that are these.
   pub record KeepsAcceptor (Are : A → Type 0) (known known' : KnownGroups W A P V Q R U) (old new : Acceptor)
       (before after : NetSeen C O) : Type 0 where
     pub account : KeepsAccount old new before after
@@ -114,12 +116,13 @@ module _ {W T A P V C O : Type 0} (Fits : T → W → Type 0) (Keeps : A → T �
       (desk desk' : ServerDesk W A P V Q R U d) (acceptor acceptor' : Acceptor) (before after : NetSeen C O) :
       Type 0 where
     pub at_desk : KeepsDeskSome desk desk'
-    pub at_acceptor : KeepsAcceptor Are (view desk.seat).known (view desk'.seat).known acceptor acceptor' before
+    pub at_acceptor : KeepsAcceptor Are (view desk.seat).known (view desk'.seat).known acceptor acceptor'
+        before
         after
 
-  -- What a round, the rounds and the threads leave, whatever the answer: the desk is one of these slots and of
-  -- this queue, the acceptor that of the net, and the first thread went on; and where memory did not lack, no
-  -- client was lost on the way.
+  -- What a round, the rounds and the threads leave, whatever the answer: the desk is one of these slots and
+  -- of this queue, the acceptor that of the net, and the first thread went on; and where memory did not lack,
+  -- no client was lost on the way.
   pub record Serves {B E : Type 0}
       {d : Ghosts (Group (Either (Place W) P) Q R (EitherTag A V) U) (EitherTag A V)
       (Group (Either (Place W) P) Q R (EitherTag A V) U)}

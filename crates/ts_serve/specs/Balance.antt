@@ -1,6 +1,7 @@
--- The balance of the acceptor: of each client that the net gave there is one connection in the row of places, or what
--- is left of it was handed over, once.
-use Rattle.std.specs.Prelude.{◌≡◌, ℕ, ◌+◌, ◌≤◌, ◌⊎◌, cond, List, All, length, Bool, true, false, get_or, is_some, set}
+-- The balance of the acceptor: of each client that the net gave there is one connection in the row of places,
+-- or what is left of it was handed over, once.
+use Rattle.std.specs.Prelude.{◌≡◌, ℕ, ◌+◌, ◌≤◌, ◌⊎◌, cond, List, All, length, Bool, true, false, get_or}
+use Rattle.std.specs.Prelude.{is_some, set}
 use Rattle.std.specs.List.{sum_by}
 use Rattle.ts_link.specs.Counts.{greatest}
 use Rattle.ts_slot.specs.Lists.{same}
@@ -54,10 +55,11 @@ module _ {C O : Type 0} where
   is_given net x = within 1 (net.given + 1) x
 
   -- What the net was handed and the row, where the net told: of all that was handed over holds what holds of
-  -- one that is done; each number is handed over or in the row once at most, and only that of a client that was
-  -- given; and as many as have no origin, so often did the net miss a dial since it had missed so many,
+  -- one that is done; each number is handed over or in the row once at most, and only that of a client that
+  -- was given; and as many as have no origin, so often did the net miss a dial since it had missed so many,
   -- unless that count is at its end.
-  pub record IsBalanced (Done : Retired C O → Type 0) (misdials : ℕ) (row : List Connection) (net : NetSeen C O) :
+  pub record IsBalanced (Done : Retired C O → Type 0) (misdials : ℕ) (row : List Connection)
+      (net : NetSeen C O) :
       Type 0 where
     pub each : All Done net.retired
     pub once : (x : ℕ) → sum_by (had_number x) net.retired + sum_by (has_number x) row ≤ is_given net x

@@ -34,12 +34,12 @@ ServerDesk W A P V Q R U d =
 
 module _ {W T A P V : Type 0} (Fits : T → W → Type 0) (Keeps : A → T → Type 0) (Other : V → P → Type 0) where
   -- In this turn the seat left a group in the place k that was made in it, and that fits these terms.
-  pub record KnowsPlace {Q R U : Type 0} (terms : A) (known : KnownGroups W A P V Q R U) (k turn : ℕ) : Type 0
-    where
-      pub group : Group (Either (Place W) P) Q R (EitherTag A V) U
-      pub made : group.cx.log.base.made ≡ turn
-      pub fits : EitherFits (PlaceFits Fits Keeps) Other (tag.One terms) group.world
-      pub known_is : KnowsTurn k turn group known
+  pub record KnowsPlace {Q R U : Type 0} (terms : A) (known : KnownGroups W A P V Q R U) (k turn : ℕ)
+      : Type 0 where
+    pub group : Group (Either (Place W) P) Q R (EitherTag A V) U
+    pub made : group.cx.log.base.made ≡ turn
+    pub fits : EitherFits (PlaceFits Fits Keeps) Other (tag.One terms) group.world
+    pub known_is : KnowsTurn k turn group known
 
 module _ {W T A P V O : Type 0} (Fits : T → W → Type 0) (Keeps : A → T → Type 0) (Other : V → P → Type 0)
     (behind : A → List (Noted O) → A) (terms : A) where
@@ -66,22 +66,23 @@ abbrev pub DoneAndSpent : {A B : Type 0} → (A → B → Type 0) → (A → B �
 DoneAndSpent Done Spent terms r = Done terms r × Spent terms r
 
 module _ {W T A P V C O : Type 0} (Fits : T → W → Type 0) (Keeps : A → T → Type 0) (Other : V → P → Type 0)
-    (behind : A → List (Noted O) → A) (Done Spent : A → Retired C O → Type 0) (Note : A → Noted O → Type 0) where
-  -- A server is served under these terms: its books are right, and so are its sessions.
-  pub record IsServing {Q R U : Type 0} (terms : A) (misdials : ℕ) (known : KnownGroups W A P V Q R U)
-      (row : List Connection) (net : NetSeen C O) : Type 0 where
-    pub books : AreBooks (Done terms) (Note terms) misdials row net
-    pub sessions : KnowsSessions Fits Keeps Other behind terms (DoneAndSpent Done Spent) known row net
+    (behind : A → List (Noted O) → A) (Done Spent : A → Retired C O → Type 0) (Note : A → Noted O → Type 0)
+  where
+    -- A server is served under these terms: its books are right, and so are its sessions.
+    pub record IsServing {Q R U : Type 0} (terms : A) (misdials : ℕ) (known : KnownGroups W A P V Q R U)
+        (row : List Connection) (net : NetSeen C O) : Type 0 where
+      pub books : AreBooks (Done terms) (Note terms) misdials row net
+      pub sessions : KnowsSessions Fits Keeps Other behind terms (DoneAndSpent Done Spent) known row net
 
-  -- it goes on to be served so, as far as the seat knows by then
-  abbrev pub ServesOn : {Q R U : Type 0} → A → KnownGroups W A P V Q R U → List Connection → List Connection
-      → NetSeen C O → NetSeen C O → Type 0
-  ServesOn terms known row row' before after =
-      (misdials : ℕ) → IsServing terms misdials known row before → IsServing terms misdials known row' after
+    -- it goes on to be served so, as far as the seat knows by then
+    abbrev pub ServesOn : {Q R U : Type 0} → A → KnownGroups W A P V Q R U → List Connection → List Connection
+        → NetSeen C O → NetSeen C O → Type 0
+    ServesOn terms known row row' before after =
+        (misdials : ℕ) → IsServing terms misdials known row before → IsServing terms misdials known row' after
 
-  -- where the net tells, it goes on to be served so, under any terms that are these
-  abbrev pub KeepsServing : {Q R U : Type 0} → Bool → (A → Type 0) → KnownGroups W A P V Q R U
-      → KnownGroups W A P V Q R U → List Connection → List Connection → NetSeen C O → NetSeen C O → Type 0
-  KeepsServing tells Are known known' row row' before after =
-      tells ≡ true → (terms : A) → Are terms → (misdials : ℕ) → IsServing terms misdials known row before
-      → IsServing terms misdials known' row' after
+    -- where the net tells, it goes on to be served so, under any terms that are these
+    abbrev pub KeepsServing : {Q R U : Type 0} → Bool → (A → Type 0) → KnownGroups W A P V Q R U
+        → KnownGroups W A P V Q R U → List Connection → List Connection → NetSeen C O → NetSeen C O → Type 0
+    KeepsServing tells Are known known' row row' before after =
+        tells ≡ true → (terms : A) → Are terms → (misdials : ℕ) → IsServing terms misdials known row before
+        → IsServing terms misdials known' row' after

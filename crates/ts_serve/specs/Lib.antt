@@ -14,8 +14,11 @@ pub mod Working
 pub mod Servers
 pub mod Opening
 pub mod Leftover
+pub mod Closing
 pub mod Served
 pub mod Exchanges
 pub mod Starting
 pub mod Ready
 pub mod Limits
+pub mod SessionTerms
+pub mod InSession

@@ -6,8 +6,8 @@ use Rattle.ts_serve.specs.declared.ready.TheConstants.{LONGEST_PAUSE, MOST_UNASK
 use Rattle.ts_serve.specs.declared.worker.TheConstants.{PAUSE}
 
 -- THE LIMITS OF SERVING: how many clients are served at a time at most; for how many milliseconds a thread
--- pauses that has nothing to do, while there are clients and at most where there are none; for how many rounds
--- at most the net is not asked who is ready; and into how many parts the queue's pass can be split.
+-- pauses that has nothing to do, while there are clients and at most where there are none; for how many
+-- rounds at most the net is not asked who is ready; and into how many parts the queue's pass can be split.
 pub record AreLimits : Type 0 where
   pub places : PLACES ≡ 256
   pub pause : PAUSE ≡ 1

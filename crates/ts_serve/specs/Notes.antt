@@ -1,6 +1,7 @@
 -- The notes of a net: of which transactions it was told after which their clients went on, in the order of
 -- their places in the sessions.
-use Rattle.std.specs.Prelude.{◌≡◌, ◌≢◌, ⊤, ℕ, ◌+◌, ◌≤◌, ◌==◌, ◌⊎◌, cond, List, [], ◌∷◌, ◌++◌, All, Bool, true, not}
+use Rattle.std.specs.Prelude.{◌≡◌, ◌≢◌, ⊤, ℕ, ◌+◌, ◌≤◌, ◌==◌, ◌⊎◌, cond, List, [], ◌∷◌, ◌++◌, All, Bool, true}
+use Rattle.std.specs.Prelude.{not}
 use Rattle.std.specs.Prelude.{filter, get_or, is_some, length}
 use Rattle.std.specs.List.{sum_by}
 use Rattle.ts_link.specs.Counts.{Counted, greatest}

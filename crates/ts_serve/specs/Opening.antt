@@ -29,9 +29,10 @@ pub record IsNewAcceptor (most : ℕ) (acceptor : Acceptor) : Type 0 where
   pub listening : acceptor.listening ≡ Open
   pub next : acceptor.next ≡ 0
 
--- The server has these tags, and a desk of its own that has the whole share, which can be split among the most
--- threads, and holds no group.
-pub record IsNewServer {X G T : Type 0} {d : Ghosts X G T} (tags : List G) (server : Server X G T d) : Type 0 where
+-- The server has these tags, and a desk of its own that has the whole share, which can be split among the
+-- most threads, and holds no group.
+pub record IsNewServer {X G T : Type 0} {d : Ghosts X G T} (tags : List G) (server : Server X G T d)
+    : Type 0 where
   pub tags_are : tags_of server.slots ≡ tags
   pub desk : IsDeskOf server.slots server.queue server.desk
   pub share : (view server.desk.seat).share ≡ whole_share

@@ -41,14 +41,15 @@ module _ {W T A P V Q R U : Type 0}
     (Fits : T → W → Type 0) (Keeps : A → T → Type 0) (Sound : W → State → List Named → Type 0)
     (Other : V → P → Type 0) (SoundOther : P → State → List Named → Type 0) (is_first : V → Bool)
     (tags : List (EitherTag A V)) (row : List Connection) (moment : ℕ) where
-  -- The client of a number need not be tried again: no handler that was started serves it, or one was roused in
-  -- a turn of its own at this desk, each event of which has its token.
+  -- The client of a number need not be tried again: no handler that was started serves it, or one was roused
+  -- in a turn of its own at this desk, each event of which has its token.
   abbrev pub IsSettledAt : ℕ
       → Desk (Group (Either (Place W) P) Q R (EitherTag A V) U) (EitherTag A V)
       (Group (Either (Place W) P) Q R (EitherTag A V) U) d → Type 0
   IsSettledAt number desk = HasNoPlace number row ⊎
       ((k : ℕ) × IsPlaceFor number k row
-      × Roused Q R U (EitherFits (PlaceFits Fits Keeps) Other) (IsFirst (tag_of (λ terms. false) is_first) tags)
+      × Roused Q R U (EitherFits (PlaceFits Fits Keeps) Other)
+      (IsFirst (tag_of (λ terms. false) is_first) tags)
       (EitherSound (PlaceSound Sound) SoundOther) (HasPlaceAt moment desk) (view desk.seat).known k)
 
   -- It is settled, or its number is left.

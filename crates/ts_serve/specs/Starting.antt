@@ -28,7 +28,8 @@ OthersStay k old new = (j : ℕ) → j ≢ k → get_or new j Free ≡ get_or ol
 abbrev pub RestStays : ℕ → List Connection → List Connection → Type 0
 RestStays k old new = (j : ℕ) → k ≤ j → get_or new j Free ≡ get_or old j Free
 
--- The handler of the place k is in the row as one that was started, and had been in the row as one that was not.
+-- The handler of the place k is in the row as one that was started, and had been in the row as one that was
+-- not.
 pub record IsNowStarted (k : ℕ) (old new : List Connection) : Type 0 where
   pub whose : Whose
   pub made : ℕ
@@ -40,13 +41,13 @@ abbrev pub is_waiting : Connection → ℕ
 is_waiting Free = 0
 is_waiting (Accepted whose started made) = cond started 0 1
 
--- Where the handler of the place k waits to be started still, it was tried: another seat held the place, and the
--- seat missed once more.
+-- Where the handler of the place k waits to be started still, it was tried: another seat held the place, and
+-- the seat missed once more.
 abbrev pub IsTriedAt : {G X : Type 0} → ℕ → List Connection → SeatView G X → SeatView G X → Type 0
 IsTriedAt k row old new = length old.misses + is_waiting (get_or row k Free) ≤ length new.misses
 
--- Each handler that waits to be started still was tried in between: as often another seat held a place, and the
--- seat missed.
+-- Each handler that waits to be started still was tried in between: as often another seat held a place, and
+-- the seat missed.
 abbrev pub AreTried : {G X : Type 0} → List Connection → SeatView G X → SeatView G X → Type 0
 AreTried row old new = length old.misses + sum_by is_waiting row ≤ length new.misses
 

@@ -1,5 +1,6 @@
 -- How the first thread goes on with a client whose handler has ended.
-use Rattle.std.specs.Prelude.{◌≡◌, ◌⊎◌, ◌<◌, ℕ, ◌+◌, Bool, true, false, List, [], ◌∷◌, ◌++◌, Option, Some, None, Result, Ok, Err}
+use Rattle.std.specs.Prelude.{◌≡◌, ◌⊎◌, ◌<◌, ℕ, ◌+◌, Bool, true, false, List, [], ◌∷◌, ◌++◌, Option, Some}
+use Rattle.std.specs.Prelude.{None, Result, Ok, Err}
 use Rattle.std.specs.Prelude.{IfSome, get_or, length, set}
 use Rattle.ts_group.specs.declared.either.Either.{Either}
 use Rattle.ts_group.specs.declared.group.Group.{Group}
@@ -37,13 +38,14 @@ pub record ChangesAt (k : ℕ) (old new : List Connection) : Type 0 where
   pub count : length new ≡ length old
   pub others : OthersStay k old new
 
--- The net was not asked for a client, and no more of them are in the row, or were handed over, than were given.
+-- The net was not asked for a client, and no more of them are in the row, or were handed over, than were
+-- given.
 pub record KeepsGiven {C O : Type 0} (row row' : List Connection) (before after : NetSeen C O) : Type 0 where
   pub net : IsNotAccepting before after
   pub no_more : HasNoMore row before → HasNoMore row' after
 
--- Another handler of the client comes next, in a group that is made with so many turns, and is in the row for the
--- place k as one that was not started.
+-- Another handler of the client comes next, in a group that is made with so many turns, and is in the row for
+-- the place k as one that was not started.
 pub record ComesNext (k made : ℕ) (whose next : Whose) (row row' : List Connection) : Type 0 where
   pub succeeds : Succeeds whose next
   pub is : row' ≡ set row k (Accepted next false made)
@@ -59,8 +61,9 @@ abbrev pub next_in : {W E : Type 0} → Result (Option W) E → Option W
 next_in (Ok next) = next
 next_in (Err e) = None
 
--- What comes of a client whose handler was taken apart. The words say of which terms this becomes of it, which are
--- those of the setting, whether a handler may live under some, and what the terms are of a client with notes.
+-- What comes of a client whose handler was taken apart. The words say of which terms this becomes of it,
+-- which are those of the setting, whether a handler may live under some, and what the terms are of a client
+-- with notes.
 module _ {W A C O : Type 0} (tells : Bool) (Becomes : A → Type 0) (Are : A → Type 0) (Lives : A → W → Type 0)
     (behind : A → List (Noted O) → A) (Done : A → Retired C O → Type 0) (k made : ℕ) (whose : Whose)
     (row row' : List Connection) (before after : NetSeen C O) (next : Option W) where

@@ -6,7 +6,7 @@ use Rattle.ts_journal.specs.State.{State}
 use Rattle.ts_journal.specs.declared.slotted.Slotted.{Ghosts}
 use Rattle.ts_group.specs.declared.action.Named.{Named}
 use Rattle.ts_group.specs.declared.either.Either.{Either}
-use Rattle.ts_group.specs.declared.either.Either.TheVariants.{One}
+use Rattle.ts_group.specs.declared.either.Either.TheVariants.{One, Other}
 use Rattle.ts_group.specs.declared.group.Group.{Group}
 use Rattle.ts_group.specs.Standing.{StandsAfter}
 use Rattle.ts_journal.specs.Machine.{HasLived}
@@ -23,7 +23,7 @@ use Rattle.ts_serve.specs.declared.acceptor.TheConstants.{PLACES}
 use Rattle.ts_serve.specs.declared.connection.Connection.{Connection}
 use Rattle.ts_serve.specs.declared.connection.Connection.TheVariants.{Accepted, Free}
 use Rattle.ts_serve.specs.declared.place.Place.{Place}
-use Rattle.ts_serve.specs.declared.place.Place.TheVariants.{Tenant}
+use Rattle.ts_serve.specs.declared.place.Place.TheVariants.{Empty, Tenant}
 use Rattle.ts_serve.specs.declared.whose.Whose.{Whose}
 
 module _ {W P Q R T U : Type 0} (Sound : W → State → List Named → Type 0) (whose_of : W → Whose)
@@ -38,7 +38,8 @@ module _ {W P Q R T U : Type 0} (Sound : W → State → List Named → Type 0) 
   pub record EntersEnded (Fits : T → Either (Place W) P → Type 0)
       {d : Ghosts (Group (Either (Place W) P) Q R T U) T (Group (Either (Place W) P) Q R T U)} (tags : List T)
       (whose : Whose) (made k : ℕ) (old new : SeatView T (Group (Either (Place W) P) Q R T U))
-      (turn : Turn (Group (Either (Place W) P) Q R T U) T (Group (Either (Place W) P) Q R T U) d) : Type 0 where
+      (turn : Turn (Group (Either (Place W) P) Q R T U) T (Group (Either (Place W) P) Q R T U) d)
+      : Type 0 where
     pub group : turn.group ≡ k
     pub finds : Finds tags new turn
     pub ended : HasEndedAt whose made turn.boxed.value
@@ -46,14 +47,33 @@ module _ {W P Q R T U : Type 0} (Sound : W → State → List Named → Type 0) 
     pub again : IsAfter (StandsAfter Fits) k turn.number turn.boxed.value old.known
     pub lived : HasLived turn.boxed.value.cx.log.base.made turn.boxed.value.cx.log.state
 
-  -- This handler has not ended in the group k that was found in this turn, which the seat knows to be left as it
-  -- was.
+-- memory lacked in whoever lives in a place; in an empty place nobody lives, nor beside the places
+abbrev pub lacks_in : {W P : Type 0} → (W → Bool) → Either (Place W) P → Bool
+lacks_in is_lacking (One Empty) = false
+lacks_in is_lacking (One (Tenant w)) = is_lacking w
+lacks_in is_lacking (Other p) = false
+
+-- Memory lacked in whoever lives in the group k, as a seat found it in a turn after all that it knew of it,
+-- and left it.
+pub record FindsLacking {W P Q R T U G : Type 0} (is_lacking : W → Bool) (k : ℕ)
+    (old new : SeatView G (Group (Either (Place W) P) Q R T U)) : Type 0 where
+  pub turn : ℕ
+  pub later : Each (λ e. e.0 ≡ k → e.1 < turn) old.known
+  pub found : Group (Either (Place W) P) Q R T U
+  pub lacks : lacks_in is_lacking found.world ≡ true
+  pub knows : KnowsTurn k turn found new.known
+
+module _ {W P Q R T U : Type 0} (Sound : W → State → List Named → Type 0) (whose_of : W → Whose)
+    (is_ended is_lacking : W → Bool) where
+  -- This handler has not ended in the group k that was found in this turn, and memory did not lack in whoever
+  -- lives there. The seat knows the group to be left as it was.
   pub record StaysIn (whose : Whose) (made k turn : ℕ) (found : Group (Either (Place W) P) Q R T U)
       (known : List (ℕ × ℕ × Group (Either (Place W) P) Q R T U)) : Type 0 where
-    pub lives_on : HasEndedAt whose made found → ⊥
+    pub lives_on : HasEndedAt Sound whose_of is_ended whose made found → ⊥
+    pub lacks_not : lacks_in is_lacking found.world ≡ false
     pub knows : KnowsTurn k turn found known
 
-  -- in a turn after all that the seat knew of the group k this handler had not ended there
+  -- in a turn after all that the seat knew of the group k this handler had not ended there, nor lacked memory
   pub record LivesOn {G : Type 0} (whose : Whose) (made k : ℕ)
       (old new : SeatView G (Group (Either (Place W) P) Q R T U)) : Type 0 where
     pub turn : ℕ
@@ -61,14 +81,17 @@ module _ {W P Q R T U : Type 0} (Sound : W → State → List Named → Type 0) 
     pub found : Group (Either (Place W) P) Q R T U
     pub stays : StaysIn whose made k turn found new.known
 
-  -- why nobody was taken out of the group k: another seat held it, or the handler had not ended
+  -- why nobody was taken out of the group k: another seat held it, or the handler had not ended and did not
+  -- lack memory
   abbrev pub IsLeftThere : {G : Type 0} → Whose → ℕ → ℕ → SeatView G (Group (Either (Place W) P) Q R T U)
       → SeatView G (Group (Either (Place W) P) Q R T U) → Type 0
   IsLeftThere whose made k old new = FindsHeld k old new ⊎ LivesOn whose made k old new
 
-  -- whoever is in the row for the place k as started goes out of the row or moves on, or is left there for a cause
+  -- whoever is in the row for the place k as started goes out of the row or moves on, or is left there for a
+  -- cause
   abbrev pub IsLookedAt : {G : Type 0} → ℕ → List Connection → List Connection
-      → SeatView G (Group (Either (Place W) P) Q R T U) → SeatView G (Group (Either (Place W) P) Q R T U) → Type 0
+      → SeatView G (Group (Either (Place W) P) Q R T U)
+      → SeatView G (Group (Either (Place W) P) Q R T U) → Type 0
   IsLookedAt k row row' old new =
       (whose : Whose) (made : ℕ) → get_or row k Free ≡ Accepted whose true made
       → ComesTo whose_of k whose row row' new.known ⊎ IsLeftThere whose made k old new
@@ -111,7 +134,8 @@ module _ {W P Q R T U : Type 0} (whose_of : W → Whose) (is_ended may_wait : W 
       → (get_or row' k Free ≡ Free) ⊎ StillRuns whose g
 
   -- the same of each place and its group, which stand in their order
-  abbrev pub AreCleared : List (Group (Either (Place W) P) Q R T U) → List Connection → List Connection → Type 0
+  abbrev pub AreCleared : List (Group (Either (Place W) P) Q R T U) → List Connection → List Connection
+      → Type 0
   AreCleared groups row row' =
       (k : ℕ) (g : Group (Either (Place W) P) Q R T U) → k < PLACES → get_elem? groups k ≡ some g
       → IsCleared k g row row'

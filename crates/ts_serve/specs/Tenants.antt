@@ -91,8 +91,8 @@ module _ {W T A : Type 0} (Fits : T → W → Type 0) (Keeps : A → T → Type 
     pub ended : is_ended w ≡ true
     pub final : IsFinal journal
 
-  -- It lives in a place of these terms, and has ended there, or waits for its client without end. The journal is
-  -- that of its group.
+  -- It lives in a place of these terms, and has ended there, or waits for its client without end. The journal
+  -- is that of its group.
   pub record HasStoodIn (is_ended may_wait : W → Bool) (terms : A) (w : W) (journal : Log) : Type 0 where
     pub fits : PlaceFits Fits Keeps terms (Tenant w)
     pub roles : List Named

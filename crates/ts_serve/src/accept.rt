@@ -7,13 +7,15 @@ ghost use Rattle.ts_thread.specs.Seats.{KeepsSeat, Leaves};
 ghost use Rattle.ts_serve.specs.declared.connection.Connection.TheVariants as Connection;
 ghost use Rattle.ts_serve.specs.declared.acceptor.Listening.TheVariants as Listening;
 ghost use Rattle.ts_serve.specs.Arrivals.{CameAs, given_after};
-ghost use Rattle.ts_serve.specs.Acceptor.{HasPlacesOf, IsAcceptorOf, IsOpenServer, KeepsAcceptor, KeepsAccount};
+ghost use Rattle.ts_serve.specs.Acceptor.{HasPlacesOf, IsAcceptorOf, IsOpenServer, KeepsAcceptor};
+ghost use Rattle.ts_serve.specs.Acceptor.{KeepsAccount};
 ghost use Rattle.ts_serve.specs.Acceptor.{KeepsSome, LosesNobody};
 ghost use Rattle.ts_serve.specs.Balance.{row_after};
 ghost use Rattle.ts_serve.specs.Knowledge.{KnowsPlace};
 ghost use Rattle.ts_serve.specs.Notes.{KeepsBooks};
 ghost use Rattle.ts_journal.specs.Machine.{HasLived};
-ghost use Rattle.ts_serve.specs.Tenants.{HoldsHandler, IsEmptyGroup, IsPlace, MayLive, MayLiveAt, StandsAccepted};
+ghost use Rattle.ts_serve.specs.Tenants.{HoldsHandler, IsEmptyGroup, IsPlace, MayLive, MayLiveAt};
+ghost use Rattle.ts_serve.specs.Tenants.{StandsAccepted};
 ghost use Rattle.ts_txn.specs.Net.{IsHandedNothing};
 
 use crate::acceptor::{Acceptor, Listening, PLACES};
@@ -48,8 +50,8 @@ pub fn open_turn<W: Tenant + Drop, P: World<Question = W::Question, Reply = W::R
     turn.value().journal().known();
 }
 
-/// Leaves a handler in the place that the seat won last, in a group of its own. Where there is none, or at want of
-/// memory, the group of an empty place is left there.
+/// Leaves a handler in the place that the seat won last, in a group of its own. Where there is none, or at
+/// want of memory, the group of an empty place is left there.
 pub fn put_next<W: Tenant + Drop, P: World<Question = W::Question, Reply = W::Reply> + Drop>(
     alloc: Global,
     slots: &Slots<PlaceGroup<W, P>>,
@@ -137,9 +139,9 @@ fn receive_at<N: ClientSource, W: Handler<N::Client, N::Origin>>(
     }
 }
 
-/// Accepts one client, if more may come, a place is free, no other seat holds it and one is there. Answers the
-/// place of whoever came, in which its handler stands then, and `None` where nobody came. At want of memory the
-/// handler is dropped.
+/// Accepts one client, if more may come, a place is free, no other seat holds it and one is there. Answers
+/// the place of whoever came, in which its handler stands then, and `None` where nobody came. At want of
+/// memory the handler is dropped.
 pub fn accept_one<
     N: ClientSource,
     W: Handler<N::Client, N::Origin> + Drop,
@@ -158,7 +160,8 @@ pub fn accept_one<
     ensures seat { IsSeatOf slots.now seat.new × KeepsSeat (view seat.old) (view seat.new) 1 }
     ensures acceptor { IsAcceptorOf acceptor.new (N.seen net.new) }
     ensures keeps { KeepsAcceptor W.fits W.keeps P.fits W.behind W.is_done W.is_spent W.is_note N.tells
-        (HasPlacesOf (tags_of slots.now)) (view seat.old).known (view seat.new).known acceptor.old acceptor.new
+        (HasPlacesOf (tags_of slots.now)) (view seat.old).known (view seat.new).known acceptor.old
+        acceptor.new
         (N.seen net.old) (N.seen net.new) }
     ensures all { LosesNobody acceptor.old acceptor.new (N.seen net.old) (N.seen net.new) }
     ensures stands { IfOk result (λ came. MatchOption came (acceptor.new.came ≡ acceptor.old.came)
@@ -196,7 +199,8 @@ pub fn accept_one<
     }
 }
 
-/// Accepts clients until none comes, none more may come, or no place is free for one. Answers whether one came.
+/// Accepts clients until none comes, none more may come, or no place is free for one. Answers whether one
+/// came.
 pub fn accept_all<
     N: ClientSource,
     W: Handler<N::Client, N::Origin> + Drop,
@@ -215,7 +219,8 @@ pub fn accept_all<
     ensures seat { IsSeatOf slots.now seat.new × KeepsSome (view seat.old) (view seat.new) }
     ensures acceptor { IsAcceptorOf acceptor.new (N.seen net.new) }
     ensures keeps { KeepsAcceptor W.fits W.keeps P.fits W.behind W.is_done W.is_spent W.is_note N.tells
-        (HasPlacesOf (tags_of slots.now)) (view seat.old).known (view seat.new).known acceptor.old acceptor.new
+        (HasPlacesOf (tags_of slots.now)) (view seat.old).known (view seat.new).known acceptor.old
+        acceptor.new
         (N.seen net.old) (N.seen net.new) }
     ensures all { LosesNobody acceptor.old acceptor.new (N.seen net.old) (N.seen net.new) }
     ensures came { IfOk result (λ came. came ≡ false → acceptor.new.came ≡ acceptor.old.came) }

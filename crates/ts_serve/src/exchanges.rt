@@ -1,7 +1,7 @@
 //! A net that is served by transactions of one setup, which have its layers over their ends, with the plugins
 //! of its lines beside them.
 
-ghost use Rattle.std.specs.Prelude.{⊤, ◌≡◌, ◌<◌, ◌≤◌, List, is_some, false, true, IfOk, IfSome};
+ghost use Rattle.std.specs.Prelude.{⊤, ◌≡◌, ◌<◌, ◌≤◌, List, [], is_some, false, true, IfOk, IfSome};
 ghost use Rattle.std.specs.Arc.{arc_value};
 ghost use Rattle.ts_exchange.specs.Left.{has_ended};
 ghost use Rattle.ts_history.specs.Done.{IsTxnDone};
@@ -147,13 +147,15 @@ impl<C: Sourced + Drop, O: Upstream<C> + Drop, P: Transform<Line = TransformLine
             → MayLive (FitsAtPlace (IsTxnOf (client_link C.Link) (origin_link O.Link)))
             (λ terms tag. KeepsTerms C.look terms tag.value)
             (λ t s roles. IsSoundTxn (client_link C.Link) (origin_link O.Link)
-            (origin_uploads C.Link O.Link O.Upstream.own P.Transform) P.Transform t.value s.pending s.next roles)
+            (origin_uploads C.Link O.Link O.Upstream.own P.Transform) P.Transform t.value s.pending s.next
+            roles)
             terms exchange) }
         ensures first { IfOk result (λ exchange. (terms : TxnTerms) → AreTerms setting.now terms
             → MayLive (FitsAtPlace (IsTxnOf (client_link C.Link) (origin_link O.Link)))
             (λ terms tag. KeepsTerms C.look terms tag.value)
             (λ t s roles. IsSoundTxn (client_link C.Link) (origin_link O.Link)
-            (origin_uploads C.Link O.Link O.Upstream.own P.Transform) P.Transform t.value s.pending s.next roles)
+            (origin_uploads C.Link O.Link O.Upstream.own P.Transform) P.Transform t.value s.pending s.next
+            roles)
             terms exchange) }
     {
         let (exchange, _tag) = make_layered(
@@ -181,14 +183,17 @@ impl<C: Sourced + Drop, O: Upstream<C> + Drop, P: Transform<Line = TransformLine
             → MayLive (FitsAtPlace (IsTxnOf (client_link C.Link) (origin_link O.Link)))
             (λ terms tag. KeepsTerms C.look terms tag.value)
             (λ t s roles. IsSoundTxn (client_link C.Link) (origin_link O.Link)
-            (origin_uploads C.Link O.Link O.Upstream.own P.Transform) P.Transform t.value s.pending s.next roles)
+            (origin_uploads C.Link O.Link O.Upstream.own P.Transform) P.Transform t.value s.pending s.next
+            roles)
             terms exchange) }
-        ensures behind { IfOk result (λ exchange. (terms : TxnTerms) (notes : List (Noted O)) (noted : Noted O)
+        ensures behind { IfOk result (λ exchange. (terms : TxnTerms) (notes : List (Noted O))
+            (noted : Noted O)
             → AreTerms setting.now terms → ComesAfter C.Link O.Link O.Upstream.own noted next
             → MayLive (FitsAtPlace (IsTxnOf (client_link C.Link) (origin_link O.Link)))
             (λ terms tag. KeepsTerms C.look terms tag.value)
             (λ t s roles. IsSoundTxn (client_link C.Link) (origin_link O.Link)
-            (origin_uploads C.Link O.Link O.Upstream.own P.Transform) P.Transform t.value s.pending s.next roles)
+            (origin_uploads C.Link O.Link O.Upstream.own P.Transform) P.Transform t.value s.pending s.next
+            roles)
             terms exchange) }
     {
         let Comer { number, client } = next;
@@ -242,6 +247,7 @@ fn serve_links<
     ensures retired { N.tells ≡ true → AreRetired
         (IsTxnDone K.Link O.Link O.Upstream.own Q.Transform (arc_value setup) PLACES)
         (N.seen net.old) (N.seen net.new) }
+    ensures noted { N.tells ≡ true → (N.seen net.new).noted ≡ [] }
     ensures served { IsServed result most (N.seen net.old) (N.seen net.new) }
 {
     let Ok(plugins) = plugins_of(host.alloc, setup.plugins.as_slice()) else {
@@ -274,6 +280,7 @@ pub fn serve_transactions<
     ensures retired { N.tells ≡ true → AreRetired
         (IsTxnDone N.Client.Link N.Origin.Link N.Origin.Upstream.own Q.Transform (arc_value setup) PLACES)
         (N.seen net.old) (N.seen net.new) }
+    ensures noted { N.tells ≡ true → (N.seen net.new).noted ≡ [] }
     ensures served { IsServed result most (N.seen net.old) (N.seen net.new) }
 {
     serve_links::<N, N::Client, N::Origin, Q, G, C, R>(host, setup, threads, most, net)

@@ -72,7 +72,7 @@ impl<C: Sourced + Drop, O: Upstream<C> + Drop, P: Transform<Line = TransformLine
 }
 
 // Starts a world.
-fn start_world<W: World>(world: &mut W, cx: &mut Cx)
+pub(crate) fn start_world<W: World>(world: &mut W, cx: &mut Cx)
     requires turn { cx.old.log.state.held ≡ true }
     requires orderly { IsOrderly cx.old }
     requires sound { W.sound world.old cx.old.log.state cx.old.roles }
@@ -86,7 +86,12 @@ fn start_world<W: World>(world: &mut W, cx: &mut Cx)
 }
 
 // Calls the handler of a role of a world with an event.
-fn handle_event<W: World>(world: &mut W, role: u32, event: Event, cx: &mut Cx) -> Want<W::Question>
+pub(crate) fn handle_event<W: World>(
+    world: &mut W,
+    role: u32,
+    event: Event,
+    cx: &mut Cx,
+) -> Want<W::Question>
     requires turn { cx.old.log.state.held ≡ true }
     requires called { IsCalled (W.sound world.old) cx.old role event }
     ensures grows { Grows cx.old cx.new }
@@ -105,7 +110,12 @@ fn handle_event<W: World>(world: &mut W, role: u32, event: Event, cx: &mut Cx) -
 }
 
 // Tells the handler of a role of a world, which asked, what came of it.
-fn tell_world<W: World>(world: &mut W, role: u32, asked: Asked<W::Question, W::Reply>, cx: &mut Cx)
+pub(crate) fn tell_world<W: World>(
+    world: &mut W,
+    role: u32,
+    asked: Asked<W::Question, W::Reply>,
+    cx: &mut Cx,
+)
     requires turn { cx.old.log.state.held ≡ true }
     requires orderly { IsOrderly cx.old }
     requires asking { IsAnswered
@@ -120,7 +130,7 @@ fn tell_world<W: World>(world: &mut W, role: u32, asked: Asked<W::Question, W::R
 }
 
 // Asks a world a question.
-fn ask_world<W: World>(world: &mut W, question: W::Question, cx: &mut Cx) -> W::Reply
+pub(crate) fn ask_world<W: World>(world: &mut W, question: W::Question, cx: &mut Cx) -> W::Reply
     requires turn { cx.old.log.state.held ≡ true }
     requires asked { IsAsked (W.sound world.old) cx.old }
     ensures grows { Grows cx.old cx.new }
@@ -135,7 +145,7 @@ fn ask_world<W: World>(world: &mut W, question: W::Question, cx: &mut Cx) -> W::
 }
 
 // Brings forward what a world waits with.
-fn rouse_world<W: Rouse>(world: &mut W, cx: &mut Cx)
+pub(crate) fn rouse_world<W: Rouse>(world: &mut W, cx: &mut Cx)
     requires turn { cx.old.log.state.held ≡ true }
     requires orderly { IsOrderly cx.old }
     requires sound { W.sound world.old cx.old.log.state cx.old.roles }
@@ -156,10 +166,12 @@ impl<C: Sourced + Drop, O: Upstream<C> + Drop, P: Transform<Line = TransformLine
     type Reply = HookReply;
 
     ghost sound = { λ t s roles. IsSoundTxn (client_link C.Link) (origin_link O.Link)
-        (origin_uploads C.Link O.Link O.Upstream.own P.Transform) P.Transform t.value s.pending s.next roles };
+        (origin_uploads C.Link O.Link O.Upstream.own P.Transform) P.Transform t.value s.pending s.next
+        roles };
 
     ghost asking = { λ t s roles role group question. AwaitsTxn (client_link C.Link) (origin_link O.Link)
-        (origin_uploads C.Link O.Link O.Upstream.own P.Transform) P.Transform t.value s.pending s.next roles group
+        (origin_uploads C.Link O.Link O.Upstream.own P.Transform) P.Transform t.value s.pending s.next roles
+        group
         question };
 
     ghost right = { λ t. IsRightFor t.value };
@@ -169,7 +181,8 @@ impl<C: Sourced + Drop, O: Upstream<C> + Drop, P: Transform<Line = TransformLine
     ghost answers = { λ t question reply. LetsContinue question reply };
 
     ghost left = { λ t s. transaction_left (client_link C.Link) (origin_link O.Link)
-        (origin_uploads C.Link O.Link O.Upstream.own P.Transform) P.Transform t.value.core t.value.course s.pending };
+        (origin_uploads C.Link O.Link O.Upstream.own P.Transform) P.Transform t.value.core t.value.course
+        s.pending };
 
     ghost only_asked = { λ tag. false };
 
@@ -178,7 +191,8 @@ impl<C: Sourced + Drop, O: Upstream<C> + Drop, P: Transform<Line = TransformLine
     ghost begun = { λ old new. HasTxnBegun old.value new.value };
 
     ghost called = { λ old new asked. TakesEvent (client_link C.Link) (origin_link O.Link)
-        (origin_uploads C.Link O.Link O.Upstream.own P.Transform) old.value.core new.value.core old.value.course
+        (origin_uploads C.Link O.Link O.Upstream.own P.Transform) old.value.core new.value.core
+        old.value.course
         new.value.course };
 
     ghost heard = { λ old new. HearsTxn old.value new.value };

@@ -109,8 +109,8 @@ fn rouse_client<
     try_rouse(shared, desk, k, moment)
 }
 
-// Tries once to rouse the handler of a client, and adds its number to those that were missed if another seat held
-// its place.
+// Tries once to rouse the handler of a client, and adds its number to those that were missed if another seat
+// held its place.
 fn rouse_or_keep<
     W: Tenant + Drop,
     P: Rouse<Question = W::Question, Reply = W::Reply> + Drop,
@@ -139,7 +139,8 @@ fn rouse_or_keep<
     Ok(())
 }
 
-// Tries once to rouse the handler of each client of these names, and adds those whose place another seat held.
+// Tries once to rouse the handler of each client of these names, and adds those whose place another seat
+// held.
 fn rouse_named<
     W: Tenant + Drop,
     P: Rouse<Question = W::Question, Reply = W::Reply> + Drop,
@@ -166,8 +167,8 @@ fn rouse_named<
     Ok(())
 }
 
-/// Tries once to rouse the handler of each client that is ready, at a moment. Whose place another seat held is
-/// ready still, since the net tells of a change once; who has none that was started is forgotten.
+/// Tries once to rouse the handler of each client that is ready, at a moment. Whose place another seat held
+/// is ready still, since the net tells of a change once; who has none that was started is forgotten.
 pub fn rouse_ready<
     W: Tenant + Drop,
     P: Rouse<Question = W::Question, Reply = W::Reply> + Drop,

@@ -1,13 +1,14 @@
-//! The first thread: it accepts clients, starts their handlers, goes on with the clients of those that have ended,
-//! and takes turns as the other threads do.
+//! The first thread: it accepts clients, starts their handlers, goes on with the clients of those that have
+//! ended, and takes turns as the other threads do.
 
-ghost use Rattle.std.specs.Prelude.{◌≡◌, true, OnOk};
+ghost use Rattle.std.specs.Prelude.{◌≡◌, false, true, OnOk};
 ghost use Rattle.std.specs.List.{sum_by};
 ghost use Rattle.ts_slot.specs.Words.{tags_of};
 ghost use Rattle.ts_thread.specs.Desks.{IsDeskOf};
 ghost use Rattle.ts_serve.specs.Acceptor.{IsAcceptorOf, IsOpenServer, IsOver, Serves};
 ghost use Rattle.ts_serve.specs.Balance.{is_taken};
 ghost use Rattle.ts_serve.specs.Servers.{CanAskInServer};
+ghost use Rattle.ts_serve.specs.Starting.{is_waiting};
 
 use crate::accept::accept_all;
 use crate::acceptor::{Acceptor, Listening};
@@ -41,6 +42,25 @@ fn is_empty(row: &[Connection]) -> bool
     true
 }
 
+// Whether the handler of each client in the row was started.
+fn are_started(row: &[Connection]) -> bool
+    ensures { result ≡ true → sum_by is_waiting row.now ≡ 0 }
+{
+    for connection in row {
+        if let Connection::Accepted { started: false, .. } = *connection {
+            return false;
+        }
+    }
+    true
+}
+
+// Whether nothing was to be done in a round: nobody came, and nobody waits to be started.
+fn was_idle(came: bool, row: &[Connection]) -> bool
+    ensures { result ≡ true → (came ≡ false) × (sum_by is_waiting row.now ≡ 0) }
+{
+    !came && are_started(row)
+}
+
 /// Whether nobody more is accepted, and what is left of each client was handed over.
 pub fn is_over(acceptor: &Acceptor) -> bool
     ensures { result ≡ true → IsOver acceptor.now }
@@ -65,7 +85,8 @@ fn tend<
     acceptor: &mut Acceptor,
     moment: u64,
 ) -> Result<bool, NoMemory>
-    requires server { IsOpenServer W.is_setting W.are_terms setting.now (tags_of service.now.shared.slots.now) }
+    requires server { IsOpenServer W.is_setting W.are_terms setting.now
+        (tags_of service.now.shared.slots.now) }
     requires here { IsDeskOf service.now.shared.slots.now service.now.shared.queue.now desk.old
         × IsAcceptorOf acceptor.old (N.seen net.old) }
     ensures { Serves W.fits W.keeps P.fits W.behind W.is_done W.is_spent W.is_note N.tells
@@ -80,7 +101,7 @@ fn tend<
 }
 
 // One round of the first thread: it tends the clients and takes a turn. Where that was idle it looks at all
-// places. Answers whether there was nothing to do.
+// places. Answers whether there was nothing to do, and nobody waits to be started.
 fn take_round<
     N: ClientSource,
     W: Handler<N::Client, N::Origin> + Drop,
@@ -96,7 +117,8 @@ fn take_round<
     acceptor: &mut Acceptor,
     moment: u64,
 ) -> Result<bool, NoMemory>
-    requires server { IsOpenServer W.is_setting W.are_terms setting.now (tags_of service.now.shared.slots.now) }
+    requires server { IsOpenServer W.is_setting W.are_terms setting.now
+        (tags_of service.now.shared.slots.now) }
     requires asks { CanAskInServer W.fits W.keeps W.may_ask W.right W.answers
         P.fits P.only_asked P.may_ask P.right P.answers (tags_of service.now.shared.slots.now) }
     requires here { IsDeskOf service.now.shared.slots.now service.now.shared.queue.now desk.old
@@ -117,7 +139,7 @@ fn take_round<
         &mut desk.seat,
         acceptor,
     )?;
-    Ok(!came)
+    Ok(was_idle(came, &acceptor.row))
 }
 
 // For how long nothing is to be done behind a round, in milliseconds, as far as is known: where nobody is
@@ -149,7 +171,8 @@ fn go_round<
     acceptor: &mut Acceptor,
     ready: &mut Ready,
 ) -> Result<(), NoMemory>
-    requires server { IsOpenServer W.is_setting W.are_terms setting.now (tags_of service.now.shared.slots.now) }
+    requires server { IsOpenServer W.is_setting W.are_terms setting.now
+        (tags_of service.now.shared.slots.now) }
     requires asks { CanAskInServer W.fits W.keeps W.may_ask W.right W.answers
         P.fits P.only_asked P.may_ask P.right P.answers (tags_of service.now.shared.slots.now) }
     requires here { IsDeskOf service.now.shared.slots.now service.now.shared.queue.now desk.old
@@ -167,8 +190,8 @@ fn go_round<
     rouse_ready(&service.shared, desk, &acceptor.row, ready, later)
 }
 
-/// Serves the net until nobody more is accepted and what is left of each client was handed over. Where the flag
-/// is set before, another thread lacked memory.
+/// Serves the net until nobody more is accepted and what is left of each client was handed over. Where the
+/// flag is set before, another thread lacked memory.
 pub fn serve_rounds<
     N: ClientSource,
     W: Handler<N::Client, N::Origin> + Drop,
@@ -183,7 +206,8 @@ pub fn serve_rounds<
     desk: &mut Desk<PlaceGroup<W, P>>,
     acceptor: &mut Acceptor,
 ) -> Result<(), NoMemory>
-    requires server { IsOpenServer W.is_setting W.are_terms setting.now (tags_of service.now.shared.slots.now) }
+    requires server { IsOpenServer W.is_setting W.are_terms setting.now
+        (tags_of service.now.shared.slots.now) }
     requires asks { CanAskInServer W.fits W.keeps W.may_ask W.right W.answers
         P.fits P.only_asked P.may_ask P.right P.answers (tags_of service.now.shared.slots.now) }
     requires here { IsDeskOf service.now.shared.slots.now service.now.shared.queue.now desk.old

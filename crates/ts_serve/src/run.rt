@@ -3,7 +3,7 @@
 ghost use Rattle.std.specs.Prelude.{◌≡◌, ◌≢◌, ◌<◌, ◌≤◌, true};
 ghost use Rattle.ts_thread.specs.declared.TheConstants.{MOST_THREADS};
 ghost use Rattle.ts_txn.specs.Net.{IsFreshNet};
-ghost use Rattle.ts_serve.specs.Knowledge.{DoneAndSpent};
+ghost use Rattle.ts_serve.specs.Notes.{HadSessions};
 ghost use Rattle.ts_serve.specs.declared.acceptor.Served.TheVariants as served;
 ghost use Rattle.ts_serve.specs.Served.{AreRetired, AreSessions, IsServed, served_by};
 ghost use Rattle.ts_serve.specs.Servers.{CanAskInServer, CanStandBeside, server_tags};
@@ -60,18 +60,20 @@ where
     W::Terms: Drop,
     P::Tag: Drop,
     requires setting { W.is_setting setting.now }
-    requires others { CanStandBeside P.fits P.sound P.only_asked others.items }
-    requires asks { (terms : W.Terms) → W.are_terms setting.now terms
+    requires others { CanStandBeside P.fits P.sound P.only_asked others.items
+        × ((terms : W.Terms) → W.are_terms setting.now terms
         → CanAskInServer W.fits W.keeps W.may_ask W.right W.answers
-        P.fits P.only_asked P.may_ask P.right P.answers (server_tags terms others.items) }
+        P.fits P.only_asked P.may_ask P.right P.answers (server_tags terms others.items)) }
     requires threads { (0 < threads) × (threads ≤ MOST_THREADS) }
     requires net { IsFreshNet (N.seen net.old) }
     ensures retired { N.tells ≡ true → (terms : W.Terms) → W.are_terms setting.now terms
         → AreRetired (W.is_done terms) (N.seen net.old) (N.seen net.new) }
-    ensures sessions { N.tells ≡ true → result ≢ served.NoMemory → (terms : W.Terms)
-        → W.are_terms setting.now terms
-        → AreSessions (W.is_note terms) (λ notes. DoneAndSpent W.is_done W.is_spent (W.behind terms notes))
+    ensures sessions { N.tells ≡ true → (terms : W.Terms) → W.are_terms setting.now terms
+        → AreSessions (W.is_note terms) (λ notes. W.is_done (W.behind terms notes))
         (N.seen net.old) (N.seen net.new) }
+    ensures spent { N.tells ≡ true → result ≢ served.NoMemory → (terms : W.Terms)
+        → W.are_terms setting.now terms
+        → HadSessions (λ notes. W.is_spent (W.behind terms notes)) (N.seen net.new) }
     ensures served { IsServed result most (N.seen net.old) (N.seen net.new) }
 {
     let Ok(acceptor) = new_acceptor(host.alloc, most) else {

@@ -1,5 +1,5 @@
-//! How a server is opened, with its slots, its queue, the first thread's desk and the acceptor, and closed where
-//! its threads ended early.
+//! How a server is opened, with its slots, its queue, the first thread's desk and the acceptor, and closed
+//! where its threads ended early.
 
 ghost use Rattle.std.specs.Prelude.{◌≡◌, ◌+◌, ◌≤◌, ◌++◌, [], All, Ok, length, map, replicate, IfOk};
 ghost use Rattle.ts_group.specs.declared.either.EitherTag.TheVariants as EitherTag;
@@ -8,6 +8,8 @@ ghost use Rattle.ts_slot.specs.Words.{AreLast, IsSeatOf, tags_of, view};
 ghost use Rattle.ts_thread.specs.Desks.{IsDeskOf};
 ghost use Rattle.ts_serve.specs.Acceptor.{HasPlacesOf, IsNotAsked, IsServerOf};
 ghost use Rattle.ts_serve.specs.Balance.{HasNoMore, KeepsBalance};
+ghost use Rattle.ts_serve.specs.Closing.{KeepsSessions};
+ghost use Rattle.ts_serve.specs.Knowledge.{KnowsAll};
 ghost use Rattle.ts_serve.specs.Leftover.{CanGoOn};
 ghost use Rattle.ts_serve.specs.Opening.{AreNewGroups, IsNewAcceptor, IsNewServer};
 ghost use Rattle.ts_serve.specs.Servers.{CanAskInServer, CanStandBeside, StandsBeside, server_tags};
@@ -191,9 +193,9 @@ where
 }
 
 /// Closes a server that nobody else uses: what is pending in its groups is handled, but where handlers may
-/// wait for their clients without end, and what is left of each client that is accepted, and whose handler has
-/// ended or may wait, is handed to the net. Answers its groups as they were found then, for contracts alone,
-/// which takes no memory. Where memory lacked, or a group had no turn left, the rest is dropped.
+/// wait for their clients without end, and what is left of each client that is accepted, and whose handler
+/// has ended or may wait, is handed to the net. Answers its groups as they were found then, for contracts
+/// alone, which takes no memory. Where memory lacked, or a group had no turn left, the rest is dropped.
 #[tactic(auto, using(crate::proofs::Leftovers::goes_same))]
 pub fn close_server<
     N: Net,
@@ -218,8 +220,12 @@ where
     requires places { length row.old.items ≡ PLACES }
     ensures balance { KeepsBalance N.tells W.is_done (HasPlacesOf (tags_of server.slots))
         row.old.items (N.seen net.old) row.new.items (N.seen net.new) }
-    ensures no_more { HasNoMore row.old.items (N.seen net.old) → HasNoMore row.new.items (N.seen net.new) }
-    ensures net { IsNotAsked (N.seen net.old) (N.seen net.new) }
+    ensures sessions { KeepsSessions N.tells W.behind W.is_done W.is_note
+        (λ terms. HasPlacesOf (tags_of server.slots) terms × KnowsAll W.fits W.keeps P.fits W.behind terms
+        (view server.desk.seat).known row.old.items (N.seen net.old))
+        row.old.items (N.seen net.old) row.new.items (N.seen net.new) }
+    ensures net { IsNotAsked (N.seen net.old) (N.seen net.new)
+        × (HasNoMore row.old.items (N.seen net.old) → HasNoMore row.new.items (N.seen net.new)) }
     ensures closed { IfOk result (λ found. IsClosedOver W.whose_of W.is_ended W.may_wait
         (tags_of server.slots) found.value.items row.old.items row.new.items) }
 {

@@ -22,8 +22,8 @@ pub trait ClientSource {
     // How many clients it gave, what it was handed, and its counts.
     ghost seen: { Self → NetSeen Self.Client Self.Origin };
 
-    /// Waits at most so many milliseconds until a client or the origin of one may be ready, and adds the names
-    /// of clients of which one is. A name may be of nobody, and one that is ready may be missing.
+    /// Waits at most so many milliseconds until a client or the origin of one may be ready, and adds the
+    /// names of clients of which one is. A name may be of nobody, and one that is ready may be missing.
     fn wait(&mut self, most: u64, ready: &mut Vec<u64>)
         ensures same { seen self.new ≡ seen self.old }
         ensures adds { AddsNames ready.old.items ready.new.items };
@@ -45,8 +45,8 @@ pub trait ClientSource {
         ensures ok { OnOk result (IsHanded tells retired (seen self.old) (seen self.new)) }
         ensures err { OnErr result (seen self.new ≡ seen self.old) };
 
-    /// Takes what is left of a transaction after which its client goes on, and counts it. At want of memory it
-    /// is dropped.
+    /// Takes what is left of a transaction after which its client goes on, and counts it. At want of memory
+    /// it is dropped.
     fn note(&mut self, noted: Noted<Self::Origin>) -> Result<(), NoMemory>
         ensures ok { OnOk result (IsNoted tells noted (seen self.old) (seen self.new)) }
         ensures err { OnErr result (seen self.new ≡ seen self.old) };

@@ -18,7 +18,8 @@ use ts_group::World;
 use ts_link::NoMemory;
 use ts_thread::{Desk, Shared, try_start};
 
-// Tries once to start the handler in the place k, if a client was accepted there whose handler was not started.
+// Tries once to start the handler in the place k, if a client was accepted there whose handler was not
+// started.
 fn start_handler<
     W: Tenant + Drop,
     P: World<Question = W::Question, Reply = W::Reply> + Drop,
@@ -51,8 +52,9 @@ fn start_handler<
     Ok(())
 }
 
-/// Tries once to start each handler of an accepted client that was not started. Of whom the row says so then, it
-/// was started, whatever is answered; where memory did not lack, another seat held the place of each other.
+/// Tries once to start each handler of an accepted client that was not started. Of whom the row says so then,
+/// it was started, whatever is answered; where memory did not lack, another seat held the place of each
+/// other.
 pub fn start_handlers<
     W: Tenant + Drop,
     P: World<Question = W::Question, Reply = W::Reply> + Drop,

@@ -1,5 +1,5 @@
-//! How the first thread goes on with a client whose handler has ended: what is left of it is handed to the net, or
-//! another handler stands in its place.
+//! How the first thread goes on with a client whose handler has ended: what is left of it is handed to the
+//! net, or another handler stands in its place.
 
 ghost use Rattle.std.specs.Prelude.{◌≡◌, ◌<◌, ◌↔◌, true, false, length, is_some, set};
 ghost use Rattle.std.specs.Prelude.{IfOk, IfSome, MatchOption, OnOk, OnErr};
@@ -14,9 +14,11 @@ ghost use Rattle.ts_serve.specs.Knowledge.{DoneAndSpent, KeepsServing, ServesOn}
 ghost use Rattle.ts_serve.specs.Leaving.{BecomesOf, LeavesWhose};
 ghost use Rattle.ts_serve.specs.Notes.{KeepsBooks, NotesAndDials, notes_of};
 ghost use Rattle.ts_serve.specs.Places.{PlaceFits};
-ghost use Rattle.ts_serve.specs.Stepping.{ChangesAt, ComesTo, IsFollowed, IsNextIn, IsOpened, IsStartedIn, KeepsGiven};
+ghost use Rattle.ts_serve.specs.Stepping.{ChangesAt, ComesTo, IsFollowed, IsNextIn, IsOpened, IsStartedIn};
+ghost use Rattle.ts_serve.specs.Stepping.{KeepsGiven};
 ghost use Rattle.ts_serve.specs.Stepping.{next_in};
-ghost use Rattle.ts_serve.specs.TakingOut.{EntersEnded, HasEndedAt, IsLeftThere, IsLookedAt};
+ghost use Rattle.ts_serve.specs.TakingOut.{EntersEnded, FindsLacking, HasEndedAt, IsLeftThere, IsLookedAt};
+ghost use Rattle.ts_serve.specs.TakingOut.{lacks_in};
 ghost use Rattle.ts_serve.specs.Tenants.{FitsTerms, HasEndedIn, IsEmptyGroup, IsPlaceOf, MayLive};
 ghost use Rattle.ts_serve.specs.Whose.{next_of, noted_of};
 ghost use Rattle.ts_serve.specs.declared.connection.Connection.TheVariants as connection;
@@ -40,8 +42,8 @@ use ts_thread::{enter, leave_found, take_tenant};
 use ts_txn::{Dialed, Noted};
 use ts_upstream::Upstream;
 
-// A handler that was taken out of its place, with the journal of its group, and the group of an empty place, which
-// is left there if nobody comes next.
+// A handler that was taken out of its place, with the journal of its group, and the group of an empty place,
+// which is left there if nobody comes next.
 #[derive(Drop)]
 struct TakenOut<W, G> {
     handler: W,
@@ -57,7 +59,8 @@ fn finds_ended<
     P: World<Question = W::Question, Reply = W::Reply> + Drop,
 >(turn: &mut Turn<PlaceGroup<W, P>>, whose: Whose, made: u64) -> bool
     ensures same { turn.new ≡ turn.old }
-    ensures over { (result ≡ true) ↔ HasEndedAt W.sound W.whose_of W.is_ended whose made turn.old.boxed.value }
+    ensures over { (result ≡ true) ↔ HasEndedAt W.sound W.whose_of W.is_ended whose made
+        turn.old.boxed.value }
 {
     has_ended(turn.value(), whose, made)
 }
@@ -68,7 +71,9 @@ fn lacks_memory<
     O: Upstream<C>,
     W: Handler<C, O> + Drop,
     P: World<Question = W::Question, Reply = W::Reply> + Drop,
->(group: &PlaceGroup<W, P>) -> bool {
+>(group: &PlaceGroup<W, P>) -> bool
+    ensures { result ≡ lacks_in W.is_lacking group.now.world }
+{
     match group.world() {
         Either::One(Place::Tenant(handler)) => handler.lacks_memory(),
         _ => false,
@@ -83,11 +88,13 @@ fn finds_lacking<
     P: World<Question = W::Question, Reply = W::Reply> + Drop,
 >(turn: &mut Turn<PlaceGroup<W, P>>) -> bool
     ensures same { turn.new ≡ turn.old }
+    ensures lacks { result ≡ lacks_in W.is_lacking turn.old.boxed.value.world }
 {
     lacks_memory(turn.value())
 }
 
-// The turn of the place k, if this handler has ended there. Else the place is left as it was found.
+// The turn of the place k, if this handler has ended there. Else the place is left as it was found. Where
+// memory lacked in whoever lives there, the answer says so.
 fn enter_ended<
     C: Link,
     O: Upstream<C>,
@@ -104,11 +111,12 @@ fn enter_ended<
     requires place { k < length (tags_of slots.now) }
     ensures seat { IsSeatOf slots.now seat.new }
     ensures found { IfOk result (λ found. MatchOption found
-        (IsLeftThere W.sound W.whose_of W.is_ended whose made k (view seat.old) (view seat.new)
+        (IsLeftThere W.sound W.whose_of W.is_ended W.is_lacking whose made k (view seat.old) (view seat.new)
         × KeepsSeat (view seat.old) (view seat.new) 1)
         (EntersEnded W.sound W.whose_of W.is_ended (EitherFits (PlaceFits W.fits W.keeps) P.fits)
         (tags_of slots.now) whose made k (view seat.old) (view seat.new))) }
-    ensures err { OnErr result (KeepsSeat (view seat.old) (view seat.new) 1) }
+    ensures err { OnErr result (KeepsSeat (view seat.old) (view seat.new) 1
+        × FindsLacking W.is_lacking k (view seat.old) (view seat.new)) }
 {
     let Some(mut turn) = enter(slots, seat, k) else {
         return Ok(None);
@@ -164,9 +172,9 @@ fn take_out<
     })
 }
 
-/// Notes what is left of the transaction of the client in the row for the place k, and dials an origin for its next
-/// one, which is in the row then, with a group that is made with so many turns. At want of memory what is left is
-/// dropped, and nothing else is done.
+/// Notes what is left of the transaction of the client in the row for the place k, and dials an origin for
+/// its next one, which is in the row then, with a group that is made with so many turns. At want of memory
+/// what is left is dropped, and nothing else is done.
 pub fn note_and_dial<N: ClientSource, W: Handler<N::Client, N::Origin>>(
     net: &mut N,
     row: &mut Vec<Connection>,
@@ -210,8 +218,9 @@ pub fn note_and_dial<N: ClientSource, W: Handler<N::Client, N::Origin>>(
     }
 }
 
-// Goes on with the client in the row for the place k, whose handler was taken apart: what is left of it is handed to
-// the net and the place is free, or another handler comes next, in a group that is made with so many turns.
+// Goes on with the client in the row for the place k, whose handler was taken apart: what is left of it is
+// handed to the net and the place is free, or another handler comes next, in a group that is made with so
+// many turns.
 fn follow<N: ClientSource, W: Handler<N::Client, N::Origin> + Drop>(
     alloc: Global,
     setting: &W::Setting,
@@ -232,12 +241,14 @@ fn follow<N: ClientSource, W: Handler<N::Client, N::Origin> + Drop>(
         (λ terms. BecomesOf (W.is_done terms) (W.is_spent terms) (W.is_note terms) (W.is_next terms)
         (MayLive W.fits W.keeps W.sound terms) leaving)
         row.old.items (N.seen net.old) row.new.items (N.seen net.new) }
-    ensures all { OnOk result (HasAll row.old.items (N.seen net.old) → HasAll row.new.items (N.seen net.new)) }
+    ensures all { OnOk result (HasAll row.old.items (N.seen net.old)
+        → HasAll row.new.items (N.seen net.new)) }
     ensures net { KeepsGiven row.old.items row.new.items (N.seen net.old) (N.seen net.new) }
     ensures comes { IsFollowed N.tells
         (λ terms. BecomesOf (W.is_done terms) (W.is_spent terms) (W.is_note terms) (W.is_next terms)
         (MayLive W.fits W.keeps W.sound terms) leaving)
-        (W.are_terms setting.now) (MayLive W.fits W.keeps W.sound) W.behind (DoneAndSpent W.is_done W.is_spent)
+        (W.are_terms setting.now) (MayLive W.fits W.keeps W.sound) W.behind
+        (DoneAndSpent W.is_done W.is_spent)
         k made whose row.old.items row.new.items (N.seen net.old) (N.seen net.new) (next_in result) }
 {
     match leaving {
@@ -311,9 +322,9 @@ fn advance<
     }
 }
 
-/// Goes on with the client in the place k, if its handler was started and has ended: what is left of it is handed to
-/// the net and the place is free, or another handler stands there, which is to be started. Where memory lacked in
-/// the handler, the answer says so.
+/// Goes on with the client in the place k, if its handler was started and has ended: what is left of it is
+/// handed to the net and the place is free, or another handler stands there, which is to be started. Where
+/// memory lacked in the handler, the answer says so.
 pub fn step_at<
     N: ClientSource,
     W: Handler<N::Client, N::Origin> + Drop,
@@ -336,7 +347,7 @@ pub fn step_at<
         (IsPlaceOf (tags_of slots.now) k) (view seat.old).known (view seat.new).known
         row.old.items row.new.items (N.seen net.old) (N.seen net.new) }
     ensures all { OnOk result ((HasAll row.old.items (N.seen net.old) → HasAll row.new.items (N.seen net.new))
-        × IsLookedAt W.sound W.whose_of W.is_ended k row.old.items row.new.items
+        × IsLookedAt W.sound W.whose_of W.is_ended W.is_lacking k row.old.items row.new.items
         (view seat.old) (view seat.new)) }
     ensures net { KeepsGiven row.old.items row.new.items (N.seen net.old) (N.seen net.new) }
 {

@@ -37,11 +37,12 @@ pub fn step_next<
     ensures seat { IsSeatOf slots.now seat.new × KeepsSeat (view seat.old) (view seat.new) 1 }
     ensures acceptor { IsAcceptorOf acceptor.new (N.seen net.new) }
     ensures keeps { KeepsAcceptor W.fits W.keeps P.fits W.behind W.is_done W.is_spent W.is_note N.tells
-        (HasPlacesOf (tags_of slots.now)) (view seat.old).known (view seat.new).known acceptor.old acceptor.new
+        (HasPlacesOf (tags_of slots.now)) (view seat.old).known (view seat.new).known acceptor.old
+        acceptor.new
         (N.seen net.old) (N.seen net.new) }
     ensures all { OnOk result (LosesNobody acceptor.old acceptor.new (N.seen net.old) (N.seen net.new)) }
     ensures looks { OnOk result ((acceptor.new.next ≡ (acceptor.old.next + 1) % PLACES)
-        × IsLookedAt W.sound W.whose_of W.is_ended acceptor.old.next
+        × IsLookedAt W.sound W.whose_of W.is_ended W.is_lacking acceptor.old.next
         acceptor.old.row.items acceptor.new.row.items (view seat.old) (view seat.new)) }
 {
     let k = acceptor.next;
@@ -68,7 +69,8 @@ pub fn step_all<
     ensures seat { IsSeatOf slots.now seat.new × KeepsSome (view seat.old) (view seat.new) }
     ensures acceptor { IsAcceptorOf acceptor.new (N.seen net.new) }
     ensures keeps { KeepsAcceptor W.fits W.keeps P.fits W.behind W.is_done W.is_spent W.is_note N.tells
-        (HasPlacesOf (tags_of slots.now)) (view seat.old).known (view seat.new).known acceptor.old acceptor.new
+        (HasPlacesOf (tags_of slots.now)) (view seat.old).known (view seat.new).known acceptor.old
+        acceptor.new
         (N.seen net.old) (N.seen net.new) }
     ensures all { OnOk result (LosesNobody acceptor.old acceptor.new (N.seen net.old) (N.seen net.new)) }
 {

@@ -1,4 +1,5 @@
-//! Who stands in a place: worlds of which one comes after the other, and those among them that serve a client.
+//! Who stands in a place: worlds of which one comes after the other, and those among them that serve a
+//! client.
 
 ghost use Rattle.std.specs.Prelude.{◌≡◌, List, [], ◌∷◌, ◌++◌, true, false, Bool, is_some, IfOk, IfSome};
 ghost use Rattle.ts_group.specs.declared.action.Named.{Named};
@@ -33,8 +34,8 @@ pub trait Tenant: Rouse {
     fn reply_empty(question: Self::Question) -> Self::Reply;
 }
 
-/// A tenant that serves a client, which came with a number, and an origin, if one was reached for it. A client
-/// whose handler has ended may go on with another one.
+/// A tenant that serves a client, which came with a number, and an origin, if one was reached for it. A
+/// client whose handler has ended may go on with another one.
 pub trait Handler<C: Link, O: Upstream<C>>: Tenant {
     /// What all handlers of a server are made with.
     type Setting;
@@ -107,12 +108,13 @@ pub trait Handler<C: Link, O: Upstream<C>>: Tenant {
         requires next { (terms : Self.Terms) × (noted : Noted O) × are_terms setting.now terms
             × is_next terms noted next }
         requires origin { IfSome origin (IsNextOrigin O.Link O.Upstream.own) }
-        ensures whose { IfOk result (λ handler. (terms : Self.Terms) (noted : Noted O) → is_next terms noted next
-            → whose_of handler ≡ next_of noted (is_some origin)) }
+        ensures whose { IfOk result (λ handler. (terms : Self.Terms) (noted : Noted O)
+            → is_next terms noted next → whose_of handler ≡ next_of noted (is_some origin)) }
         ensures lives { IfOk result (λ handler. (terms : Self.Terms) (noted : Noted O)
             → are_terms setting.now terms → is_next terms noted next
             → MayLive Self.fits Self.keeps Self.sound terms handler) }
-        ensures behind { IfOk result (λ handler. (terms : Self.Terms) (notes : List (Noted O)) (noted : Noted O)
+        ensures behind { IfOk result (λ handler. (terms : Self.Terms) (notes : List (Noted O))
+            (noted : Noted O)
             → are_terms setting.now terms → is_next (behind terms notes) noted next
             → MayLive Self.fits Self.keeps Self.sound (behind terms (notes ++ noted ∷ [])) handler) };
 

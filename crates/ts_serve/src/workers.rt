@@ -1,5 +1,5 @@
-//! The event threads of a server: the first, which accepts clients, and those that work beside it, joined again
-//! once it is done.
+//! The event threads of a server: the first, which accepts clients, and those that work beside it, joined
+//! again once it is done.
 
 ghost use Rattle.std.specs.Prelude.{◌≡◌, ◌<◌, ◌≤◌, true, Ok, OnOk};
 ghost use Rattle.ts_slot.specs.Words.{tags_of};
@@ -114,7 +114,8 @@ fn serve_alone<
     mut desk: Desk<PlaceGroup<W, P>>,
     mut acceptor: Acceptor,
 ) -> Joined<PlaceGroup<W, P>>
-    requires server { IsOpenServer W.is_setting W.are_terms setting.now (tags_of service.now.shared.slots.now) }
+    requires server { IsOpenServer W.is_setting W.are_terms setting.now
+        (tags_of service.now.shared.slots.now) }
     requires asks { CanAskInServer W.fits W.keeps W.may_ask W.right W.answers
         P.fits P.only_asked P.may_ask P.right P.answers (tags_of service.now.shared.slots.now) }
     requires here { IsDeskOf service.now.shared.slots.now service.now.shared.queue.now desk
@@ -143,7 +144,8 @@ fn ended_whole(ended: Result<(), NoMemory>, whole: bool) -> Result<(), NoMemory>
     Ok(())
 }
 
-// Of so many threads, more than one, the first accepts clients beside the others, each with a part of the desk.
+// Of so many threads, more than one, the first accepts clients beside the others, each with a part of the
+// desk.
 fn serve_beside<
     N: ClientSource,
     W: Handler<N::Client, N::Origin> + Drop + Send,
@@ -159,7 +161,8 @@ fn serve_beside<
     mut desk: Desk<PlaceGroup<W, P>>,
     acceptor: Acceptor,
 ) -> Joined<PlaceGroup<W, P>>
-    requires server { IsOpenServer W.is_setting W.are_terms setting.now (tags_of service.now.shared.slots.now) }
+    requires server { IsOpenServer W.is_setting W.are_terms setting.now
+        (tags_of service.now.shared.slots.now) }
     requires asks { CanAskInServer W.fits W.keeps W.may_ask W.right W.answers
         P.fits P.only_asked P.may_ask P.right P.answers (tags_of service.now.shared.slots.now) }
     requires works { CanWork service.now.shared.slots.now service.now.shared.queue.now threads desk
@@ -221,7 +224,8 @@ pub fn run_event_threads<
     desk: Desk<PlaceGroup<W, P>>,
     acceptor: Acceptor,
 ) -> Joined<PlaceGroup<W, P>>
-    requires server { IsOpenServer W.is_setting W.are_terms setting.now (tags_of service.now.shared.slots.now) }
+    requires server { IsOpenServer W.is_setting W.are_terms setting.now
+        (tags_of service.now.shared.slots.now) }
     requires asks { CanAskInServer W.fits W.keeps W.may_ask W.right W.answers
         P.fits P.only_asked P.may_ask P.right P.answers (tags_of service.now.shared.slots.now) }
     requires works { CanWork service.now.shared.slots.now service.now.shared.queue.now threads desk

@@ -10,32 +10,36 @@ use Rattle.ts_serve.specs.declared.acceptor.TheConstants.{PLACES}
 use Rattle.ts_serve.specs.declared.exchanges.TxnTerms.{TxnTerms}
 use Rattle.ts_serve.proofs.Askers.{plugins_few, plugins_stand, server_asks}
 use Rattle.ts_serve.proofs.Crossing.{placed_send}
+use Rattle.ts_serve.proofs.Notes.{none_noted}
 use Rattle.ts_serve.proofs.exchanges.serve_links.Goals as goal
+
+-- the terms of the places under a setup
+abbrev setup_terms : Setup → TxnTerms
+setup_terms setup = record { setup = record { marker = record {}; value = setup }; plugins_at = PLACES }
 
 pub serve-requires-clause-others : goal.serve-requires-clause-others
 serve-requires-clause-others g c κs within =
     let lines = c.as_slice.ensures.value ∙ ap (λ (s : Setup). s.plugins.items) c.deref.ensures in
-    let are = subst (λ ls. ArePluginsOf ls c.in-Ok.plugins.items) lines c.in-Ok.ensures in
-    record {
-      few = plugins_few (arc_value c.args.setup) c.in-Ok.plugins.items are c.requires.setup;
-      each = plugins_stand (arc_value c.args.setup).plugins.items c.in-Ok.plugins.items are;
-    }
-
-pub serve-requires-clause-asks : goal.serve-requires-clause-asks
-serve-requires-clause-asks g c κs within = λ terms of_setting.
-    let lines = c.as_slice.ensures.value ∙ ap (λ (s : Setup). s.plugins.items) c.deref.ensures in
-    let are = subst (λ ls. ArePluginsOf ls c.in-Ok.plugins.items) lines c.in-Ok.ensures in
-    server_asks g.row.K.Denot g.row.O.Denot g.row.Q.Denot g.K.Link
-    g.O.Link (arc_value c.args.setup) terms c.in-Ok.plugins.items of_setting.setup
-    of_setting.plugins_at are
+    let are = subst (λ ls. ArePluginsOf ls c.in-Ok.plugins.items) lines c.in-Ok.ensures in (
+      record {
+        few = plugins_few (arc_value c.args.setup) c.in-Ok.plugins.items are c.requires.setup;
+        each = plugins_stand (arc_value c.args.setup).plugins.items c.in-Ok.plugins.items are;
+      },
+      λ terms of_setting. server_asks g.row.K.Denot g.row.O.Denot g.row.Q.Denot g.K.Link
+          g.O.Link (arc_value c.args.setup) terms c.in-Ok.plugins.items of_setting.setup
+          of_setting.plugins_at are,
+    )
 
 pub returns-clause-retired : goal.returns-clause-retired
 returns-clause-retired g c = λ telling.
-    let terms : TxnTerms = record {
-      setup = record { marker = record {}; value = arc_value c.args.setup };
-      plugins_at = PLACES;
-    } in
+    let terms = setup_terms (arc_value c.args.setup) in
     c.serve.ensures.retired telling terms (record { setup = refl; plugins_at = refl })
+
+pub returns-clause-noted : goal.returns-clause-noted
+returns-clause-noted g c = λ telling.
+    let terms = setup_terms (arc_value c.args.setup) in
+    none_noted (g.N.Net.seen c.serve.new.net).noted
+    (c.serve.ensures.sessions telling terms (record { setup = refl; plugins_at = refl })).each
 
 pub serve-requires-send-W : goal.serve-requires-send-W
 serve-requires-send-W g c κs within =

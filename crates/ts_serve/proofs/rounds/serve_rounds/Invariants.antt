@@ -1,5 +1,5 @@
--- Round after round, the desk is one of the slots, the acceptor that of the net, the first thread goes on, and no
--- client is lost.
+-- Round after round, the desk is one of the slots, the acceptor that of the net, the first thread goes on,
+-- and no client is lost.
 use Rattle.ts_slot.specs.Words.{tags_of}
 use Rattle.ts_thread.specs.Desks.{IsDeskOf}
 use Rattle.ts_serve.specs.Acceptor.{GoesOn, HasPlacesOf, IsAcceptorOf, LosesNobody}

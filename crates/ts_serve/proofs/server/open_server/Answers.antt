@@ -1,4 +1,5 @@
--- The tags of the server are those of its places and of the worlds beside them, and its desk is the first one.
+-- The tags of the server are those of its places and of the worlds beside them, and its desk is the first
+-- one.
 use Rattle.std.proofs.Common.{◌≡◌, ◌++◌, length, map, sym, ap, subst, ◌∙◌, arith}
 use Rattle.ts_group.specs.declared.either.EitherTag.TheVariants.{Other}
 use Rattle.ts_serve.specs.Acceptor.{HasPlacesOf}

@@ -1,5 +1,5 @@
--- Handler after handler, the desk goes on, the same clients are in the row, whoever is in the row as started was,
--- and each of the others was tried.
+-- Handler after handler, the desk goes on, the same clients are in the row, whoever is in the row as started
+-- was, and each of the others was tried.
 use Rattle.std.proofs.Common.{◌+◌, ◌≤◌, arith}
 use Rattle.std.proofs.lemmas.Bool.Decides.{nat_tests}
 use Rattle.ts_slot.specs.Words.{tags_of, view}

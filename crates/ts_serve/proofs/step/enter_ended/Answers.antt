@@ -21,6 +21,25 @@ leave_found-requires-then-not-finds_ended-clause-finds g c =
     subst (Finds (tags_of c.args.slots.now) (view c.enter.new.seat))
     (sym (c.finds_ended.ensures.same ∙ c.finds_lacking.ensures.same)) c.in-Some.ensures.finds
 
+-- memory lacked in whoever lives there
+pub returns-then-finds_lacking-clause-err : goal.returns-then-finds_lacking-clause-err
+returns-then-finds_lacking-clause-err g c =
+    let turn = c.in-Some.turn in
+    let left = c.leave_found in (
+      c.in-Some.ensures.keeps (view left.new.seat) left.ensures.leaves,
+      record {
+        turn = turn.number;
+        later = each_map _ (λ e. e.0 ≡ c.args.k → e.1 < turn.number) (view c.args.seat.now).known
+            (λ e after is. (after is).0) c.in-Some.ensures.again;
+        found = turn.boxed.value;
+        lacks = sym c.finds_lacking.ensures.lacks ∙ c.if-finds_lacking.true;
+        knows = subst (λ j. KnowsTurn j turn.number turn.boxed.value (view left.new.seat).known)
+            c.in-Some.ensures.group
+            (subst (λ t. KnowsTurn t.group t.number t.boxed.value (view left.new.seat).known)
+            c.finds_lacking.ensures.same left.ensures.knows);
+      },
+    )
+
 pub returns-then-not-finds_ended-clause-found : goal.returns-then-not-finds_ended-clause-found
 returns-then-not-finds_ended-clause-found g c =
     let turn = c.in-Some.turn in
@@ -36,6 +55,7 @@ returns-then-not-finds_ended-clause-found g c =
               sym (c.finds_ended.ensures.over.1 (subst (λ t. HasEndedAt g.W.World.sound g.W.Handler.whose_of
               g.W.Handler.is_ended c.args.whose c.args.made t.boxed.value) (sym c.finds_lacking.ensures.same)
               ended)) ∙ c.if-not-finds_ended.true in cc);
+          lacks_not = sym c.finds_lacking.ensures.lacks ∙ c.if-finds_lacking.false;
           knows = subst (λ j. KnowsTurn j turn.number turn.boxed.value (view left.new.seat).known)
               c.in-Some.ensures.group
               (subst (λ t. KnowsTurn t.group t.number t.boxed.value (view left.new.seat).known) same

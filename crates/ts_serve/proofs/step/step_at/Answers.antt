@@ -30,7 +30,8 @@ advance-requires-clause-row g c =
     sym (get_or_read row c.args.k c.index.result.now c.requires.place.1 c.index.ensures Free) ∙ connected.is
     ∙ ap (λ s. Accepted connected.whose s connected.made) c.if-not-started.false in
     let entered = subst (λ found. MatchOption found
-    (IsLeftThere g.W.World.sound g.W.Handler.whose_of g.W.Handler.is_ended connected.whose connected.made c.args.k
+    (IsLeftThere g.W.World.sound g.W.Handler.whose_of g.W.Handler.is_ended g.W.Handler.is_lacking connected.whose
+    connected.made c.args.k
     (view c.args.seat.now) (view c.enter_ended.new.seat)
     × KeepsSeat (view c.args.seat.now) (view c.enter_ended.new.seat) 1)
     (EntersEnded g.W.World.sound g.W.Handler.whose_of g.W.Handler.is_ended
@@ -53,7 +54,8 @@ returns-clause-serving g c = λ telling terms place misdials was.
     sym (get_or_read row c.args.k c.index.result.now c.requires.place.1 c.index.ensures Free) ∙ connected.is
     ∙ ap (λ s. Accepted connected.whose s connected.made) c.if-not-started.false in
     let entered = subst (λ found. MatchOption found
-    (IsLeftThere g.W.World.sound g.W.Handler.whose_of g.W.Handler.is_ended connected.whose connected.made c.args.k
+    (IsLeftThere g.W.World.sound g.W.Handler.whose_of g.W.Handler.is_ended g.W.Handler.is_lacking connected.whose
+    connected.made c.args.k
     (view c.args.seat.now) (view c.enter_ended.new.seat)
     × KeepsSeat (view c.args.seat.now) (view c.enter_ended.new.seat) 1)
     (EntersEnded g.W.World.sound g.W.Handler.whose_of g.W.Handler.is_ended
@@ -80,13 +82,14 @@ pub returns-in_err-turn-clause-serving : goal.returns-in_err-turn-clause-serving
 returns-in_err-turn-clause-serving g c = λ telling terms place misdials.
     serves_more g.W.Slotted.fits g.W.Tenant.keeps g.P.Slotted.fits g.W.Handler.behind g.W.Handler.is_done
     g.W.Handler.is_spent g.W.Handler.is_note terms misdials (view c.args.seat.now).known (view c.enter_ended.new.seat).known
-    c.args.row.now.items (g.N.ClientSource.seen c.args.net.now) c.in_err-turn.ensures.err.known
+    c.args.row.now.items (g.N.ClientSource.seen c.args.net.now) c.in_err-turn.ensures.err.0.known
 
 pub returns-in_default-2-clause-serving : goal.returns-in_default-2-clause-serving
 returns-in_default-2-clause-serving g c = λ telling terms place misdials.
     let connected = c.in-Accepted in
     let left = subst (λ found. MatchOption found
-    (IsLeftThere g.W.World.sound g.W.Handler.whose_of g.W.Handler.is_ended connected.whose connected.made c.args.k
+    (IsLeftThere g.W.World.sound g.W.Handler.whose_of g.W.Handler.is_ended g.W.Handler.is_lacking connected.whose
+    connected.made c.args.k
     (view c.args.seat.now) (view c.enter_ended.new.seat)
     × KeepsSeat (view c.args.seat.now) (view c.enter_ended.new.seat) 1)
     (EntersEnded g.W.World.sound g.W.Handler.whose_of g.W.Handler.is_ended
