@@ -32,8 +32,8 @@ pub record WriteBoth (listen origin : List ℕ) (place target : SocketAddr) : Ty
 module _ {A K : Type 0} (listens : SocketAddr → Result A Error → Type 0)
     (connects : SocketAddr → K → Type 0) (watches : ℕ → Bool → A → A → Type 0) where
   -- The sockets listen at the address that the first text writes, and dial the one that the second writes.
-  -- Who listens is watched, or is known not to be. Nobody came yet, nobody lingers, and no descriptor is
-  -- held.
+  -- Who listens is watched, or is known not to be. Nobody came yet or is dialed for, nobody lingers, and no
+  -- descriptor is held.
   pub record IsOpened {S H T U : Type 0} (listen origin : List ℕ) (o : Opened S A K H T U) : Type 0 where
     pub place : SocketAddr
     pub target : SocketAddr
@@ -45,6 +45,7 @@ module _ {A K : Type 0} (listens : SocketAddr → Result A Error → Type 0)
     pub backlog : o.backlog ≡ watched_or_not told
     pub dialing : connects target o.connector
     pub given : o.listener.given ≡ 0
+    pub dials_for : o.dials_for ≡ 0
     pub lingering : o.lingering.waiting ≡ []
     pub spare : o.spare ≡ None
 

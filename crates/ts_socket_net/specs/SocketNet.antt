@@ -1,5 +1,5 @@
 -- What contracts see of a net over sockets, and what each of its calls does.
-use Rattle.std.specs.Prelude.{◌≡◌, ℕ, ◌<◌, List, [], ⊤, Bool, false, Option, Some, None, Result}
+use Rattle.std.specs.Prelude.{◌≡◌, ℕ, ◌+◌, ◌<◌, List, [], ⊤, Bool, false, Option, Some, None, Result}
 use Rattle.std.specs.declared.io.Error.{Error}
 use Rattle.std.specs.declared.net.socket_addr.SocketAddr.{SocketAddr}
 use Rattle.ts_link.specs.Counts.{greatest}
@@ -23,6 +23,7 @@ use Rattle.ts_txn.specs.declared.net.Began.TheVariants as began
 use Rattle.ts_txn.specs.declared.net.Dialed.{Dialed}
 use Rattle.ts_txn.specs.declared.net.Dialed.TheVariants as dialed
 use Rattle.ts_txn.specs.declared.net.NetCounts.{NetCounts}
+use Rattle.ts_txn.specs.declared.retired.Noted.{Noted}
 use Rattle.ts_txn.specs.declared.retired.Retired.{Retired}
 use Rattle.ts_upstream.specs.Uploads.{MovesNothing}
 use Rattle.ts_upstream.specs.declared.upstream.Upstream as upstream
@@ -158,6 +159,16 @@ module _ {S A K H T U : Type 0} where
       (old new : StreamNet S C A K H T U) : Type 0 where
     pub some_left : old.handed < greatest
     pub lingers : Keeps shuts retired.parts.client old.opened new.opened
+
+  -- the client of this number is dialed for next, if the net has begun
+  abbrev pub dialing_for : ℕ → Option (Opened S A K H T U) → Option (Opened S A K H T U)
+  dialing_for number None = None
+  dialing_for number (Some o) = Some (record o { dials_for = number })
+
+  -- one note more is counted, and its client is dialed for next
+  abbrev pub once_noted : {C : Type 0} → Noted (StreamLink U) → StreamNet S C A K H T U
+      → StreamNet S C A K H T U
+  once_noted noted net = record net { notes = net.notes + 1; opened = dialing_for noted.number net.opened }
 
   -- no transaction more can be counted, and the net stays as it was
   pub record TakesNone {C : Type 0} (old new : StreamNet S C A K H T U) : Type 0 where

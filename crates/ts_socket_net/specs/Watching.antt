@@ -34,8 +34,14 @@ abbrev pub backlog_after : {T : Type 0} → ℕ → Arrival T → Backlog → Ba
 backlog_after moment arrival.Again backlog = once_empty moment backlog
 backlog_after moment _ backlog = backlog
 
+-- the number of the client that is dialed for next, once this came of asking for one: that of whoever came
+abbrev pub dials_for_after : {T : Type 0} → Arrival T → ℕ → ℕ
+dials_for_after (arrival.Client link) before = link.name
+dials_for_after _ before = before
+
 module _ {S A K H T U : Type 0} where
-  -- a client was asked for at a moment; if one came it is watched, and if none did that is kept
+  -- a client was asked for at a moment; if one came it is watched, and dialed for next, and if none did that
+  -- is kept
   pub record AsksNow (accepts : A → A → Result T Error → Type 0)
       (reads : T → T → Result ℕ Error → List ℕ → Type 0) (watches : ℕ → Bool → T → T → Type 0)
       (spares : Result H Error → Type 0) (moment : ℕ) (old new : Opened S A K H T U) (answer : Arrival T) :
@@ -44,6 +50,7 @@ module _ {S A K H T U : Type 0} where
     pub does : AcceptsOne accepts reads spares moment old new came
     pub watched : IsWatchedArrival watches came answer
     pub backlog : new.backlog ≡ backlog_after moment came old.backlog
+    pub dials_for : new.dials_for ≡ dials_for_after came old.dials_for
 
   -- A client is asked for at a moment where one may be there; where none may be, that is the answer, and
   -- nothing changes.
@@ -54,13 +61,13 @@ module _ {S A K H T U : Type 0} where
     pub due : asks moment old.backlog ≡ true → AsksNow accepts reads watches spares moment old new answer
     pub other : asks moment old.backlog ≡ false → (answer ≡ arrival.Again) × (new ≡ old)
 
-  -- the origin was dialed once, and if it was reached is watched under the number of the client that came
-  -- last
+  -- the origin was dialed once, and if it was reached is watched under the number of the client for which it
+  -- was to be dialed
   pub record DialsWatched (connects : K → K → Result U Error → Type 0) (watches : ℕ → Bool → U → U → Type 0)
       (old new : Opened S A K H T U) (answer : Dialing U) : Type 0 where
     pub came : Dialing U
     pub does : DialsOnce connects old new came
-    pub watched : IsWatchedDial watches old.listener.given came answer
+    pub watched : IsWatchedDial watches old.dials_for came answer
 
   -- a wait was told of names, and whether who listens is among them changes what is known of the clients that
   -- wait; nothing else changes

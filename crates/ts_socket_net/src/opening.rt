@@ -10,12 +10,14 @@ use std::io::ErrorKind;
 use ts_link::NoMemory;
 use ts_net::{Acceptor, AddressFault, Backlog, Lingering, Listener, Poller, address_of};
 
-/// Who listens, who dials, the clients that linger, the descriptor that is held for the next dial, what tells
-/// which sockets are ready, and what is known of the clients that wait.
+/// Who listens, who dials, the number of the client that is dialed for next (who came last, or was noted
+/// since), the clients that linger, the descriptor that is held for the next dial, what tells which sockets
+/// are ready, and what is known of the clients that wait.
 #[derive(Drop)]
 pub struct Opened<S: Sockets> {
     pub listener: Listener<S::Acceptor>,
     pub connector: S::Connector,
+    pub dials_for: u64,
     pub lingering: Lingering<<S::Acceptor as Acceptor>::Stream>,
     pub spare: Option<S::Spare>,
     pub poller: Poller,
@@ -80,6 +82,7 @@ pub fn open<S: Sockets>(
     Ok(Opened {
         listener,
         connector: sockets.connector(target),
+        dials_for: 0,
         lingering,
         spare: None,
         poller,

@@ -1,9 +1,9 @@
 //! A net over sockets.
-ghost use Rattle.std.specs.Prelude.{◌≡◌, ◌+◌, false, None, OnOk, OnErr};
+ghost use Rattle.std.specs.Prelude.{◌≡◌, false, None, OnOk, OnErr};
 ghost use Rattle.ts_link.specs.Counts.{greatest};
 ghost use Rattle.ts_socket_net.specs.SocketNet.{AcceptsNow, Accepts, BeginsOnce, Dials, DialsNow, Gives};
 ghost use Rattle.ts_socket_net.specs.SocketNet.{LingersNow, TakesNone, TakesOne, Waits, no_counts, seen_of};
-ghost use Rattle.ts_socket_net.specs.SocketNet.{stream_link, stream_origin};
+ghost use Rattle.ts_socket_net.specs.SocketNet.{once_noted, stream_link, stream_origin};
 ghost use Rattle.ts_txn.specs.Net.{AddsNames, CountsRise, GivesClient, GivesNobody, GivesOrigin, IsFreshNet};
 ghost use Rattle.ts_txn.specs.Net.{IsHanded, IsHandedNothing, IsNoted};
 ghost use Rattle.ts_txn.specs.Net.{raised_by_accept, raised_by_begin, raised_by_dial};
@@ -20,7 +20,8 @@ use ts_txn::{Accepted, Began, Dialed, Net, NetCounts, Noted, Retired};
 /// Listens at one address and dials another, each with an address and a port as `127.0.0.1:8080`. It begins
 /// once. A client is taken where a descriptor is left for its origin too; else it waits, as if it had not
 /// come. It is asked for where the system told of one, and from time to time; and a wait names the clients of
-/// which a socket is ready. One whose transaction is handed over lingers: what it still sends is read and
+/// which a socket is ready, their own or their origin's. An origin is dialed for the client that came last,
+/// or was noted since. A client whose transaction is handed over lingers: what it still sends is read and
 /// passed over, so that it gets its answer whole. It tells nothing of the bytes that pass.
 #[derive(Drop)]
 pub struct StreamNet<'a, S: Sockets, C> {
@@ -127,6 +128,7 @@ impl<'a, S: Sockets, C: Clock> StreamNet<'a, S, C> {
             let Opened {
                 listener,
                 connector: _,
+                dials_for: _,
                 mut lingering,
                 spare: _,
                 poller: _,
@@ -243,17 +245,20 @@ where
         Ok(())
     }
 
-    // The origin's socket is closed.
-    fn note(&mut self, _noted: Noted<OriginOf<S>>) -> Result<(), NoMemory>
-        ensures ok { OnOk result (IsNoted false _noted (seen_of self.old) (seen_of self.new)) }
+    // The origin's socket is closed, and the client is dialed for next.
+    fn note(&mut self, noted: Noted<OriginOf<S>>) -> Result<(), NoMemory>
+        ensures ok { OnOk result (IsNoted false noted (seen_of self.old) (seen_of self.new)) }
         ensures err { OnErr result (seen_of self.new ≡ seen_of self.old) }
-        ensures counts { OnOk result (self.new ≡ record self.old { notes = self.old.notes + 1 }) }
+        ensures counts { OnOk result (self.new ≡ once_noted noted self.old) }
         ensures none { OnErr result ((self.old.notes ≡ greatest) × (self.new ≡ self.old)) }
     {
         let Some(notes) = self.notes.checked_add(1) else {
             return Err(NoMemory);
         };
         self.notes = notes;
+        if let Some(opened) = &mut self.opened {
+            opened.dials_for = noted.number;
+        }
         Ok(())
     }
 }

@@ -5,7 +5,7 @@ ghost use Rattle.ts_net.specs.Arrivals.{IsNamed};
 ghost use Rattle.ts_net.specs.Polls.{AddsSome};
 ghost use Rattle.ts_socket_net.specs.Asking.{given_with};
 ghost use Rattle.ts_socket_net.specs.Watching.{AsksWhereDue, DialsWatched, IsWatchedArrival, IsWatchedDial};
-ghost use Rattle.ts_socket_net.specs.Watching.{WaitsOnce, backlog_after};
+ghost use Rattle.ts_socket_net.specs.Watching.{WaitsOnce, backlog_after, dials_for_after};
 
 use crate::asking;
 use crate::opening::Opened;
@@ -56,7 +56,18 @@ fn backlog_after<T>(backlog: Backlog, arrival: &Arrival<T>, moment: u64) -> Back
     }
 }
 
-/// Asks for the next client where one may be there, and watches it. Those who linger are looked at then.
+// The number of the client that is dialed for next, once this came of asking for one.
+fn dials_for_after<T>(before: u64, arrival: &Arrival<T>) -> u64
+    ensures { result ≡ dials_for_after arrival.now before }
+{
+    match arrival {
+        Arrival::Client(link) => link.name(),
+        Arrival::Again | Arrival::Closed | Arrival::Failed => before,
+    }
+}
+
+/// Asks for the next client where one may be there, and watches it. It is dialed for next. Those who linger
+/// are looked at then.
 pub fn accept_client<S: Sockets>(
     sockets: &S,
     opened: &mut Opened<S>,
@@ -71,19 +82,21 @@ pub fn accept_client<S: Sockets>(
         return Arrival::Again;
     }
     let backlog = opened.backlog;
+    let dials_for = opened.dials_for;
     let arrival = asking::accept_client(sockets, opened, moment);
     opened.backlog = backlog_after(backlog, &arrival, moment);
+    opened.dials_for = dials_for_after(dials_for, &arrival);
     watch_client(&opened.poller, arrival)
 }
 
-/// Dials the origin, and watches it.
+/// Dials the origin, and watches it under the number of the client that is dialed for.
 pub fn dial_origin<S: Sockets>(
     opened: &mut Opened<S>,
 ) -> Dialing<<S::Connector as Connector>::Stream>
     ensures { DialsWatched S.Connector.connects S.Connector.Stream.watches opened.old opened.new result }
 {
     let dialing = asking::dial_origin(opened);
-    watch_origin(&opened.poller, opened.listener.given(), dialing)
+    watch_origin(&opened.poller, opened.dials_for, dialing)
 }
 
 /// Waits at most so many milliseconds until a client or an origin is ready, and adds the names of clients of

@@ -10,7 +10,7 @@ use ts_journal::Journal;
 use ts_link::{Clock, Got, Link};
 use ts_net::{Dialing, MonotonicClock, SocketLink, SystemConnector, dial};
 use ts_socket_net::SocketNet;
-use ts_txn::{Accepted, Began, Retired, TxnParts};
+use ts_txn::{Accepted, Began, Noted, Retired, TxnParts};
 use ts_wire::Mode;
 
 /// How many milliseconds a test waits for what is to come.
@@ -111,6 +111,18 @@ pub fn retired<R: AllocGlobal + Abort>(
         end: None,
     };
     Retired { parts, journal }
+}
+
+/// What is left of the first transaction of the client of this number, which goes on.
+pub fn noted<R: AllocGlobal + Abort>(rt: &R, number: u64, origin: SocketLink) -> Noted<SocketLink> {
+    Noted {
+        number,
+        place: 1,
+        origin: Some(origin),
+        cuts: Vec::new(rt.alloc()),
+        end: None,
+        journal: Journal::make(rt.alloc(), 0).expect(rt, MEMORY),
+    }
 }
 
 /// Reads until there are bytes, and gives the answer.

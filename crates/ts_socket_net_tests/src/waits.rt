@@ -1,9 +1,12 @@
 //! Waits of a net over sockets: the clients that are named, of which a socket is ready.
-use crate::loopback::{MEMORY, PATIENCE, REFUSED, accept, begin, connect, listen, read_waiting};
+use crate::loopback::{
+    MEMORY, PATIENCE, REFUSED, accept, begin, connect, listen, noted, read_waiting,
+};
+use mio::net::TcpListener;
 use std::net;
 use std::process::Abort;
 use ts_link::{Clock, Got, Link, Put};
-use ts_net::{MonotonicClock, StreamLink};
+use ts_net::{MonotonicClock, SocketLink, StreamLink};
 use ts_socket_net::SocketNet;
 use ts_txn::{Accepted, Dialed, Net};
 
@@ -70,4 +73,55 @@ fn a_client_is_accepted_once_it_was_told_of(rt: HostRuntime) {
         };
         assert!(rt; nobody && named == Some((number, number)) && name == number);
     }
+}
+
+// Both ends of a connection to the origin, and the first and the last name that waits gave, once it was
+// reached and once the origin had spoken.
+#[derive(Drop)]
+struct Spoken {
+    dialed: SocketLink,
+    _origin: SocketLink,
+    named: [Option<(u64, u64)>; 2],
+}
+
+// Dials the origin, which says something then.
+fn dial_spoken<R: net::Net + AllocGlobal + Abort, C: Clock>(
+    rt: &R,
+    net: &mut SocketNet<'_, R, C>,
+    listener: &TcpListener,
+) -> Spoken {
+    let _others = named(rt, net, 0);
+    let Dialed::Origin(dialed) = net.dial() else {
+        panic!(rt; "no origin");
+    };
+    let reached = named(rt, net, PATIENCE);
+    let (stream, _) = listener.accept().expect(rt, REFUSED);
+    let mut origin = StreamLink::new(stream, 0);
+    let spoke = origin.write(b"answer");
+    let heard = named(rt, net, PATIENCE);
+    assert!(rt; spoke == Put::Took(6));
+    Spoken {
+        dialed,
+        _origin: origin,
+        named: [reached, heard],
+    }
+}
+
+// The origin is dialed for the client that came last, and then for another one that was noted since.
+#[test]
+fn a_client_that_goes_on_is_named_where_its_next_origin_is_ready(rt: HostRuntime) {
+    let clock = MonotonicClock::new(&rt);
+    let mut net = SocketNet::new(&rt, rt.alloc(), &clock);
+    let (listener, origin_port) = listen(&rt);
+    let port = begin(&rt, &mut net, origin_port);
+    let _one = connect(&rt, port);
+    let _served_one = accept(&rt, &mut net);
+    let first = dial_spoken(&rt, &mut net, &listener);
+    let _two = connect(&rt, port);
+    let _served_two = accept(&rt, &mut net);
+    let second = dial_spoken(&rt, &mut net, &listener);
+    let taken = net.note(noted(&rt, 1, first.dialed)).is_ok();
+    let next = dial_spoken(&rt, &mut net, &listener);
+    assert!(rt; first.named == [Some((1, 1)); 2] && second.named == [Some((2, 2)); 2]);
+    assert!(rt; taken && next.named == [Some((1, 1)); 2]);
 }
