@@ -1,69 +1,68 @@
--- A configuration on each of whose lines some part of the program acts has no rule of a session.
-use Rattle.std.proofs.Common.{◌≡◌, ℕ, ◌+◌, List, [], ◌∷◌, ◌++◌, Bool, true, false, cond, Some, None, Ok, refl, ap, sym, ◌∙◌, subst, append-nil}
-use Rattle.std.specs.Prelude.{filter, flat_map, not}
-use Rattle.std.specs.List.{AllByRecursion, AllZip}
-use Rattle.ts_config.proofs.ValueReads.{meaning_value}
-use Rattle.ts_config.specs.Lines.{config_lines}
-use Rattle.ts_config.specs.Reading.{Means, plugin_in, IsConfiguration}
-use Rattle.ts_config.specs.Setup.{ConfigLines, acting_plugins, is_session}
-use Rattle.ts_config.specs.Value.{meaning_of}
-use Rattle.ts_config.specs.declared.fields.PluginLine.TheVariants.{Deny, Header, SessionHeader}
-use Rattle.ts_config.specs.declared.setup.LineMeaning.{LineMeaning}
-use Rattle.ts_config.specs.declared.setup.LineMeaning.TheVariants.{Empty, Transform, Request, Intercept, Plugin, Tap}
-use Rattle.ts_proxy.specs.Idle.{first_idle, idle_behind, is_idle, is_idle_read}
+-- The lines that act, in the order in which they act: they are few and plain as all lines are.
+use Rattle.std.proofs.Common.{◌≡◌, ◌≤◌, ℕ, Bool, true, false, List, length, not, sym, ap, subst, arith, refl}
+use Rattle.std.proofs.Common.{append-nil}
+use Rattle.std.specs.List.{All, filter}
+use Rattle.std.proofs.lemmas.List.{length-append}
+use Rattle.std.proofs.lemmas.List.Elements.{All-append, All-filter}
+use Rattle.std.proofs.lemmas.List.Filters.{length-filter_both}
+use Rattle.ts_config.specs.Reading.{AreFew, IsConfiguration}
+use Rattle.ts_config.specs.Rules.{HasPlainRule}
+use Rattle.ts_config.specs.Setup.{ConfigLines, acting_plugins, in_order, is_session, lines_of}
+use Rattle.ts_config.specs.declared.fields.PluginLine.{PluginLine}
+use Rattle.ts_config.specs.declared.setup.Setup.{Setup}
+use Rattle.ts_plugin.proofs.InOrder.{acting_ordered}
+use Rattle.ts_proxy.proofs.FilledLines.{few-same}
+use Rattle.ts_proxy.specs.Answers.{KeepsLines}
+use Rattle.ts_replay.specs.Recorded.{HasPlainLines}
 
--- none of these lines is idle
-abbrev AreActive : List LineMeaning → Type 0
-AreActive es = AllByRecursion (λ e. is_idle e ≡ false) es
+abbrev is_global : PluginLine → Bool
+is_global line = not (is_session line)
 
-each_acts : (n : ℕ) (lines : List (List ℕ)) (es : List LineMeaning)
-    → AllZip (λ l m. Means l (Ok m)) lines es → idle_behind n lines ≡ None → AreActive es
-each_acts n [] [] each none = tt
-each_acts n [] (e ∷ es) each none = absurd each
-each_acts n (line ∷ lines) [] each none = absurd each
-each_acts n (line ∷ lines) (e ∷ es) each none =
-    let value : meaning_of line ≡ Ok e = meaning_value line (Ok e) each.0 in
-    let both = by_line (is_idle e) refl
-    (subst (λ m. cond (is_idle_read m) (Some (n + 1)) (idle_behind (n + 1) lines) ≡ None) value none) in
-    (both.0, each_acts (n + 1) lines es each.1 both.1)
-  where
-    by_line : (b : Bool) → is_idle e ≡ b → cond b (Some (n + 1)) (idle_behind (n + 1) lines) ≡ None
-        → (is_idle e ≡ false) × (idle_behind (n + 1) lines ≡ None)
-    by_line true is given = absurd (let wrong : Some (n + 1) ≡ None = given in cc)
-    by_line false is given = (is, given)
+-- they are no more than all
+acting_few : (sessions : Bool) (lines : List PluginLine)
+    → length (acting_plugins sessions lines) ≤ length lines
+acting_few true lines =
+    omega (
+      arith,
+      length-append (filter is_global lines) (filter is_session lines),
+      length-filter_both is_session is_global (λ line. refl) lines,
+    )
+acting_few false lines =
+    let none : length (acting_plugins false lines) ≡ length (filter is_global lines) =
+    ap length (append-nil (filter is_global lines)) in
+    omega (arith, none, length-filter_both is_session is_global (λ line. refl) lines)
 
-no_sessions : (es : List LineMeaning) → AreActive es → filter is_session (flat_map plugin_in es) ≡ []
-no_sessions [] are = refl
-no_sessions (Empty ∷ es) are = no_sessions es are.1
-no_sessions (Transform line ∷ es) are = no_sessions es are.1
-no_sessions (Request line ∷ es) are = no_sessions es are.1
-no_sessions (Intercept line ∷ es) are = no_sessions es are.1
-no_sessions (Tap most ∷ es) are = no_sessions es are.1
-no_sessions (Plugin (Deny sites) ∷ es) are = no_sessions es are.1
-no_sessions (Plugin (Header side rule) ∷ es) are = no_sessions es are.1
-no_sessions (Plugin (SessionHeader side rule) ∷ es) are =
-    absurd (let wrong : true ≡ false = are.0 in cc)
+-- and their rules are those of the text
+acting_plain : (sessions : Bool) (lines : List PluginLine) → All HasPlainRule lines
+    → All HasPlainRule (acting_plugins sessions lines)
+acting_plain true lines plain =
+    All-append HasPlainRule (filter is_global lines) (filter is_session lines)
+    (All-filter is_global HasPlainRule lines plain) (All-filter is_session HasPlainRule lines plain)
+acting_plain false lines plain =
+    subst (All HasPlainRule) (sym (append-nil (filter is_global lines)))
+    (All-filter is_global HasPlainRule lines plain)
 
-all_global : (es : List LineMeaning) → AreActive es
-    → filter (λ l. not (is_session l)) (flat_map plugin_in es) ≡ flat_map plugin_in es
-all_global [] are = refl
-all_global (Empty ∷ es) are = all_global es are.1
-all_global (Transform line ∷ es) are = all_global es are.1
-all_global (Request line ∷ es) are = all_global es are.1
-all_global (Intercept line ∷ es) are = all_global es are.1
-all_global (Tap most ∷ es) are = all_global es are.1
-all_global (Plugin (Deny sites) ∷ es) are = ap (λ ls. Deny sites ∷ ls) (all_global es are.1)
-all_global (Plugin (Header side rule) ∷ es) are = ap (λ ls. Header side rule ∷ ls) (all_global es are.1)
-all_global (Plugin (SessionHeader side rule) ∷ es) are =
-    absurd (let wrong : true ≡ false = are.0 in cc)
-
--- so its hook plugins stand in the order in which they act
-pub acting-read : (bytes : List ℕ) (lines : ConfigLines) → IsConfiguration bytes lines
-    → first_idle bytes ≡ None → acting_plugins true lines.plugins ≡ lines.plugins
-acting-read bytes lines read none =
-    let are : AreActive read.es = each_acts 0 (config_lines bytes) read.es read.read.each none in
-    let plugins = flat_map plugin_in read.es in
-    let acting : acting_plugins true plugins ≡ plugins =
-    ap (λ gs. gs ++ filter is_session plugins) (all_global read.es are)
-    ∙ ap (λ ss. plugins ++ ss) (no_sessions read.es are) ∙ append-nil plugins in
-    subst (λ (ls : ConfigLines). acting_plugins true ls.plugins ≡ ls.plugins) (sym read.lines_are) acting
+-- WHAT ACTS OF LINES THAT WERE READ AND FILLED is few and plain, and stands in its order.
+pub plain_acting : (sessions : Bool) (bytes : List ℕ) (read filled acts : Setup)
+    → IsConfiguration bytes (lines_of read) → All HasPlainRule read.plugins.items → KeepsLines read filled
+    → lines_of acts ≡ in_order sessions (lines_of filled) → HasPlainLines acts
+plain_acting sessions bytes read filled acts is rules kept same =
+    let few : AreFew (lines_of filled) =
+    few-same (lines_of read) (lines_of filled) kept.lines (subst AreFew (sym is.lines_are) is.read.few) in
+    let plain : All HasPlainRule filled.plugins.items =
+    subst (All HasPlainRule) (sym (ap (λ (ls : ConfigLines). ls.plugins) kept.lines)) rules in
+    let ordered : AreFew (in_order sessions (lines_of filled)) = record {
+      transforms = few.transforms;
+      requests = few.requests;
+      intercepts = few.intercepts;
+      plugins = omega (arith, few.plugins, acting_few sessions filled.plugins.items);
+      taps = few.taps;
+    } in
+    let plugins : acts.plugins.items ≡ acting_plugins sessions filled.plugins.items =
+    ap (λ (ls : ConfigLines). ls.plugins) same in
+    record {
+      few = subst AreFew (sym same) ordered;
+      plain = subst (All HasPlainRule) (sym plugins) (acting_plain sessions filled.plugins.items plain);
+      ordered = subst (λ ps. acting_plugins true ps ≡ ps) (sym plugins)
+          (acting_ordered sessions filled.plugins.items);
+    }

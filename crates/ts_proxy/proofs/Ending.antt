@@ -3,10 +3,9 @@ use Rattle.std.specs.Prelude.{◌≢◌, ⊤, nat_le, length}
 use Rattle.std.proofs.Common.{◌≡◌, ◌⊎◌, ℕ, Bool, true, false, List, [], ◌∷◌, Option, Some, None, inl, inr}
 use Rattle.std.proofs.Common.{ap, refl, subst, sym, arith, if◌then◌else◌}
 use Rattle.std.proofs.lemmas.List.{append-nil}
-use Rattle.ts_config.specs.Setup.{ConfigLines, file_at, with_file}
+use Rattle.ts_config.specs.Setup.{ConfigLines, file_at, in_order, with_file}
 use Rattle.ts_config.specs.Value.{Reading, Good, Bad, config_of}
 use Rattle.ts_config.specs.declared.setup.ConfigKind.{ConfigKind}
-use Rattle.ts_config.specs.declared.setup.ConfigKind.TheVariants as k
 use Rattle.ts_config.specs.declared.setup.FilePlace.{FilePlace}
 use Rattle.ts_journal.specs.Log.{Log}
 use Rattle.ts_link.specs.Counts.{Counted}
@@ -20,10 +19,9 @@ use Rattle.ts_proxy.specs.Answers.{is_unwritten}
 use Rattle.ts_proxy.specs.Ends.{EndsAt, HasCause, IsQuiet, IsStatus, IsStatusOf, RoseAt, Takes, TakesAt, bad_line}
 use Rattle.ts_proxy.specs.Ends.{cannot_read, cannot_write, done, network, out_of_memory, status_of, too_long}
 use Rattle.ts_proxy.specs.Ends.{usage}
-use Rattle.ts_proxy.specs.Outcome.{Outcome, Usage, BadLine, Missing, Long, Text, Report, Summary, Serving, acted}
+use Rattle.ts_proxy.specs.Outcome.{Outcome, Usage, BadLine, Missing, Long, Text, Report, Summary, Serving}
 use Rattle.ts_proxy.specs.Outcome.{lines_filled, most_append, most_config, most_input, opened}
 use Rattle.ts_proxy.specs.Outcome.{outcome_of, performed, named_filled, set_up, understood, worked}
-use Rattle.ts_proxy.specs.Idle.{first_idle}
 use Rattle.ts_proxy.specs.Performed.{IsPerformed}
 use Rattle.ts_proxy.specs.Took.{TookSome, TookWhole}
 use Rattle.ts_proxy.specs.Words.{Command, Transform, Replay, Task, Over, Make, Serve, config_in, input_in}
@@ -60,29 +58,25 @@ module _ (Is : Outcome → Type 0) (missing : (name : List ℕ) → Is (Missing 
       named-of files (file_at ls p) p ls (λ filled. lines_filled files ps filled next)
       (λ filled. filled-of files ps filled next h)
 
-  acted-of : (o : Option ℕ) (x : Outcome) → Is x → Is (acted o x)
-  acted-of None x h = h
-  acted-of (Some n) x h = bad n k.Arguments
+  understood-of : (files : List ℕ → Option (List ℕ)) (r : Reading) (next : ConfigLines → Outcome)
+      → ((xs : ConfigLines) → Is (next xs)) → Is (understood r (λ ls ps. lines_filled files ps ls next))
+  understood-of files (Good lines places) next h = filled-of files places lines next h
+  understood-of files (Bad n kind) next h = bad n kind
 
-  understood-of : (files : List ℕ → Option (List ℕ)) (r : Reading) (idle : Option ℕ)
+  set-up-of : (sessions : Bool) (files : List ℕ → Option (List ℕ)) (config : List ℕ)
       (next : ConfigLines → Outcome) → ((xs : ConfigLines) → Is (next xs))
-      → Is (understood r (λ ls ps. acted idle (lines_filled files ps ls next)))
-  understood-of files (Good lines places) idle next h =
-      acted-of idle (lines_filled files places lines next) (filled-of files places lines next h)
-  understood-of files (Bad n kind) idle next h = bad n kind
-
-  set-up-of : (files : List ℕ → Option (List ℕ)) (config : List ℕ) (next : ConfigLines → Outcome)
-      → ((xs : ConfigLines) → Is (next xs)) → Is (set_up files config next)
-  set-up-of files config next h =
+      → Is (set_up sessions files config next)
+  set-up-of sessions files config next h =
+      let acting : ConfigLines → Outcome = λ filled. next (in_order sessions filled) in
       opened-of (files config) most_config config (λ bytes. understood (config_of bytes)
-      (λ ls ps. acted (first_idle bytes) (lines_filled files ps ls next)))
-      (λ bytes. understood-of files (config_of bytes) (first_idle bytes) next h)
+      (λ ls ps. lines_filled files ps ls acting))
+      (λ bytes. understood-of files (config_of bytes) acting (λ xs. h (in_order sessions xs)))
 
   performed-by : (command : Command) → ((lines : ConfigLines) (bytes : List ℕ)
       → Is (worked command lines bytes))
       → (files : List ℕ → Option (List ℕ)) (config input : List ℕ) → Is (performed command files config input)
   performed-by command h files config input =
-      set-up-of files config (λ lines. opened (files input) most_input input (worked command lines))
+      set-up-of false files config (λ lines. opened (files input) most_input input (worked command lines))
       (λ lines. opened-of (files input) most_input input (worked command lines) (h lines))
 
 -- an outcome of a command over files, which writes a text
@@ -111,10 +105,10 @@ performed-of command files config input =
     performed-by IsOfFiles (λ name. tt) (λ name. tt) (λ n k. tt) command
     (worked-of command) files config input
 
-served-of : (files : List ℕ → Option (List ℕ)) (config : List ℕ)
-    → IsOfServe (set_up files config (λ lines. Serving lines))
-served-of files config =
-    set-up-of IsOfServe (λ name. tt) (λ name. tt) (λ n k. tt) files config (λ lines. Serving lines)
+served-of : (sessions : Bool) (files : List ℕ → Option (List ℕ)) (config : List ℕ)
+    → IsOfServe (set_up sessions files config (λ lines. Serving lines))
+served-of sessions files config =
+    set-up-of IsOfServe (λ name. tt) (λ name. tt) (λ n k. tt) sessions files config (λ lines. Serving lines)
     (λ lines. tt)
 
 not-usage-of : (o : Outcome) → IsOfFiles o → o ≢ Usage
@@ -128,8 +122,8 @@ task-command shelf (Over command config input) =
     not-usage-of (performed command shelf.file config input) (performed-of command shelf.file config input)
 task-command shelf (Make numbers) = λ is. cc
 task-command shelf (Serve words) =
-    not-usage-served (set_up shelf.file words.config (λ lines. Serving lines))
-    (served-of shelf.file words.config)
+    not-usage-served (set_up words.sessions shelf.file words.config (λ lines. Serving lines))
+    (served-of words.sessions shelf.file words.config)
 
 -- words that ask for a task are of a command
 pub asked_command : (shelf : ShelfSeen) (asked : Option Task)
@@ -305,8 +299,9 @@ ends-at shelf (Over command config input) answer h named =
     (performed-of command shelf.file config input) h
 ends-at shelf (Make numbers) answer h named = ends-of-made numbers answer h named
 ends-at shelf (Serve words) answer h named =
-    ends-of-served words.config answer (set_up shelf.file words.config (λ lines. Serving lines))
-    (served-of shelf.file words.config) h
+    ends-of-served words.config answer
+    (set_up words.sessions shelf.file words.config (λ lines. Serving lines))
+    (served-of words.sessions shelf.file words.config) h
 
 -- each answer has a status, and that of a task is not that of usage
 is-status : (answer : Answer) → IsStatus (status_of answer)

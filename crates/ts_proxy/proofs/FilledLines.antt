@@ -1,25 +1,20 @@
 -- The lines of a configuration, filled one by one.
-use Rattle.std.proofs.Common.{◌≡◌, ◌+◌, ◌≤◌, All, drop, get_or, ℕ, List, [], ◌∷◌, Option, Some, None, Result, Ok, Err, true, false}
+use Rattle.std.proofs.Common.{◌≡◌, ◌+◌, ◌≤◌, drop, get_or, ℕ, List, [], ◌∷◌, Option, Some, None, Result, Ok, Err, true, false}
 use Rattle.std.proofs.Common.{sym, ap, ◌∙◌, length, subst, arith}
 use Rattle.std.proofs.lemmas.List.{drop_more, length-map}
-use Rattle.std.specs.Prelude.{IfErr, IfOk, IfSome, IsSome, IsSomeAnd}
+use Rattle.std.specs.Prelude.{IfErr, IfSome, IsSome, IsSomeAnd}
 use Rattle.std.specs.Str.{IsUtf8}
-use Rattle.ts_config.specs.Reading.{AreFew, IsConfiguration}
-use Rattle.ts_config.specs.Rules.{HasPlainRule}
-use Rattle.ts_config.specs.Setup.{ConfigLines, HasSameFiles, acting_plugins, lines_of, untexted, untexted_intercept, untexted_lines}
+use Rattle.ts_config.specs.Reading.{AreFew}
+use Rattle.ts_config.specs.Setup.{ConfigLines, HasSameFiles, untexted, untexted_intercept, untexted_lines}
 use Rattle.ts_config.specs.Value.{Good, config_of}
 use Rattle.ts_config.specs.declared.setup.FilePlace.{FilePlace}
-use Rattle.ts_config.specs.declared.setup.Setup.{Setup}
 use Rattle.ts_link.specs.Seen.{ShelfSeen}
 use Rattle.ts_proxy.specs.declared.answer.Answer.{Answer}
 use Rattle.ts_proxy.specs.declared.answer.Answer.TheVariants as a
 use Rattle.ts_proxy.specs.declared.answer.NamedFile.{NamedFile}
 use Rattle.ts_proxy.specs.declared.answer.NamedFile.TheVariants as file
-use Rattle.ts_replay.specs.Recorded.{HasPlainLines}
-use Rattle.ts_proxy.specs.Idle.{first_idle}
 use Rattle.ts_proxy.specs.Outcome.{Outcome, Text, place_filled, lines_filled, most_config}
-use Rattle.ts_proxy.proofs.ActingLines.{acting-read}
-use Rattle.ts_proxy.specs.Answers.{HasOutput, IsNamedAt, IsOfConfig, IsReadBy, KeepsLines, OnCannotRead}
+use Rattle.ts_proxy.specs.Answers.{HasOutput, IsNamedAt, IsOfConfig, IsReadBy, OnCannotRead}
 use Rattle.ts_proxy.specs.Answers.{ReachesFile, ReachesIn}
 
 -- the lines at all places but those that are left were filled, so the work comes to what it comes to on these
@@ -120,18 +115,17 @@ cut-at all held k place kept below read =
 -- the configuration was read, and the work on its lines comes to a file
 reaches-read : (shelf : ShelfSeen) (files : List ℕ → Option (List ℕ)) (config bytes : List ℕ)
     (lines : ConfigLines) (places : List FilePlace) (f : NamedFile) → shelf.file config ≡ Some bytes
-    → length bytes ≤ most_config → config_of bytes ≡ Good lines places → first_idle bytes ≡ None
-    → files ≡ shelf.file → ReachesFile files places lines f → IsReadBy shelf config f
-reaches-read shelf files config bytes lines places file.Config there within reads acts same comes = tt
-reaches-read shelf files config bytes lines places file.Input there within reads acts same comes =
+    → length bytes ≤ most_config → config_of bytes ≡ Good lines places → files ≡ shelf.file
+    → ReachesFile files places lines f → IsReadBy shelf config f
+reaches-read shelf files config bytes lines places file.Config there within reads same comes = tt
+reaches-read shelf files config bytes lines places file.Input there within reads same comes =
     absurd comes.names
-reaches-read shelf files config bytes lines places (file.Appended name) there within reads acts same comes =
+reaches-read shelf files config bytes lines places (file.Appended name) there within reads same comes =
     let f : NamedFile = file.Appended name in
     let reached : ReachesIn shelf.file bytes f = record {
       lines = lines;
       places = places;
       reading = reads;
-      acted = acts;
       reaches = subst (λ fs. ReachesFile fs places lines f) same comes;
     } in
     subst (λ o. IsSomeAnd o (λ bs. (length bs ≤ most_config) × ReachesIn shelf.file bs f)) (sym there)
@@ -141,21 +135,21 @@ reaches-read shelf files config bytes lines places (file.Appended name) there wi
 pub comes-read : {X : Type 0} (shelf : ShelfSeen) (files : List ℕ → Option (List ℕ)) (config bytes : List ℕ)
     (lines : ConfigLines) (places : List FilePlace) (result : Result X Answer)
     → shelf.file config ≡ Some bytes → length bytes ≤ most_config → config_of bytes ≡ Good lines places
-    → first_idle bytes ≡ None → files ≡ shelf.file
+    → files ≡ shelf.file
     → IfErr result (λ answer. OnCannotRead answer (ReachesFile files places lines))
     → IfErr result (λ answer. OnCannotRead answer (IsReadBy shelf config))
-comes-read shelf files config bytes lines places (Ok x) there within reads acts same named = tt
-comes-read shelf files config bytes lines places (Err (a.CannotRead f)) there within reads acts same named =
-    reaches-read shelf files config bytes lines places f there within reads acts same named
-comes-read shelf files config bytes lines places (Err a.Done) there within reads acts same named = tt
-comes-read shelf files config bytes lines places (Err a.Usage) there within reads acts same named = tt
-comes-read shelf files config bytes lines places (Err (a.BadLine b)) there within reads acts same named = tt
-comes-read shelf files config bytes lines places (Err (a.BadRecording o)) there within reads acts same named =
+comes-read shelf files config bytes lines places (Ok x) there within reads same named = tt
+comes-read shelf files config bytes lines places (Err (a.CannotRead f)) there within reads same named =
+    reaches-read shelf files config bytes lines places f there within reads same named
+comes-read shelf files config bytes lines places (Err a.Done) there within reads same named = tt
+comes-read shelf files config bytes lines places (Err a.Usage) there within reads same named = tt
+comes-read shelf files config bytes lines places (Err (a.BadLine b)) there within reads same named = tt
+comes-read shelf files config bytes lines places (Err (a.BadRecording o)) there within reads same named =
     tt
-comes-read shelf files config bytes lines places (Err a.CannotWrite) there within reads acts same named = tt
-comes-read shelf files config bytes lines places (Err a.OutOfMemory) there within reads acts same named = tt
-comes-read shelf files config bytes lines places (Err (a.TooLong f)) there within reads acts same named = tt
-comes-read shelf files config bytes lines places (Err a.Network) there within reads acts same named = tt
+comes-read shelf files config bytes lines places (Err a.CannotWrite) there within reads same named = tt
+comes-read shelf files config bytes lines places (Err a.OutOfMemory) there within reads same named = tt
+comes-read shelf files config bytes lines places (Err (a.TooLong f)) there within reads same named = tt
+comes-read shelf files config bytes lines places (Err a.Network) there within reads same named = tt
 
 -- a line with a file has one whose name is text
 pub named-file : (o : Option (List ℕ)) → IsSome o → IfSome o IsUtf8 → IsSomeAnd o IsUtf8
@@ -183,28 +177,3 @@ few-same old new same few = counted new (subst AreFew (sym same) (uncounted old 
       plugins = few.plugins;
       taps = few.taps;
     }
-
--- lines that were read are few, their rules are plain, and where some part of the program acts on each they
--- stand in the order in which they act
-pub plain-read : (bytes : List ℕ) (s : Setup) → IsConfiguration bytes (lines_of s)
-    → All HasPlainRule s.plugins.items → first_idle bytes ≡ None → HasPlainLines s
-plain-read bytes s read rules acts = record {
-  few = subst AreFew (sym read.lines_are) read.read.few;
-  plain = rules;
-  ordered = acting-read bytes (lines_of s) read acts;
-}
-
--- and stay so
-pub plain-kept : (old new : Setup) → KeepsLines old new → HasPlainLines old → HasPlainLines new
-plain-kept old new kept plain = record {
-  few = few-same (lines_of old) (lines_of new) kept.lines plain.few;
-  plain = subst (All HasPlainRule) (sym (ap (λ (ls : ConfigLines). ls.plugins) kept.lines)) plain.plain;
-  ordered = subst (λ ps. acting_plugins true ps ≡ ps)
-      (sym (ap (λ (ls : ConfigLines). ls.plugins) kept.lines)) plain.ordered;
-}
-
--- where they were filled
-pub plain-filled : {X : Type 0} (old : Setup) (result : Result Setup X) → IfOk result (KeepsLines old)
-    → HasPlainLines old → IfOk result HasPlainLines
-plain-filled old (Ok new) kept plain = plain-kept old new kept plain
-plain-filled old (Err e) kept plain = tt

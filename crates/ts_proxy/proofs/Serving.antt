@@ -1,5 +1,6 @@
 -- From what becomes of a net to what `serve` came to and leaves.
-use Rattle.std.proofs.Common.{◌≡◌, ◌≤◌, ◌⊎◌, ℕ, ◌+◌, Bool, true, List, [], All, Some, inl, inr, refl, sym, subst, arith, ap}
+use Rattle.std.proofs.Common.{◌≡◌, ◌≤◌, ◌⊎◌, ℕ, ◌+◌, Bool, false, true, List, [], All, Some, inl, inr, refl}
+use Rattle.std.proofs.Common.{sym, subst, arith, ap}
 use Rattle.std.specs.List.{sum_by}
 use Rattle.std.proofs.lemmas.List.Elements.{All-nil}
 use Rattle.ts_config.specs.Setup.{ConfigLines, lines_of}
@@ -9,11 +10,13 @@ use Rattle.ts_link.specs.Counts.{Rose, greatest}
 use Rattle.ts_link.specs.Seen.{ShelfSeen, SinkSeen}
 use Rattle.ts_link.specs.declared.link.Link as link
 use Rattle.ts_serve.specs.Balance.{had_number, lacked_origin}
-use Rattle.ts_serve.specs.Served.{AreRetired}
+use Rattle.ts_serve.specs.Notes.{noted_none}
+use Rattle.ts_serve.specs.Served.{AreRetired, AreSessions}
 use Rattle.ts_history.specs.Done.{IsTxnDone}
 use Rattle.ts_serve.specs.declared.acceptor.TheConstants.{PLACES}
 use Rattle.ts_stock.specs.StockTransform.{stock_transform}
 use Rattle.ts_txn.specs.Net.{IsFreshNet, NetSeen}
+use Rattle.ts_txn.specs.declared.retired.Noted.{Noted}
 use Rattle.ts_txn.specs.declared.retired.Retired.{Retired}
 use Rattle.ts_upstream.specs.declared.upstream.Upstream as upstream
 use Rattle.ts_proxy.specs.declared.answer.Answer.{Answer}
@@ -22,7 +25,8 @@ use Rattle.ts_proxy.specs.Answers.{ComesAt, IsOfReading, IsServing, IsUnfailed, 
 use Rattle.ts_proxy.specs.Ends.{IsFileStatus, done, network, out_of_memory, status_of}
 use Rattle.ts_proxy.specs.Outcome.{Outcome, Serving, outcome_of, set_up}
 use Rattle.ts_proxy.specs.Performed.{IsPerformed, LeavesJournalsAt}
-use Rattle.ts_proxy.specs.Serving.{EndsNet, IsNetLeft, IsServedNet}
+use Rattle.ts_proxy.specs.Serving.{EndsNet, HadSessionsAt, HasSessionsIf, IsHandedNone}
+use Rattle.ts_proxy.specs.Serving.{IsNetLeft, IsServedNet}
 use Rattle.ts_proxy.specs.Words.{Serve}
 use Rattle.ts_words.specs.Serve.{ServeWords}
 
@@ -46,7 +50,7 @@ by-end P (a.TooLong f) most old new d n m h = absurd h
 pub performed-served : {C O : Type 0} (words : ServeWords) (tells out_tells : Bool) (shelf shelf' : ShelfSeen)
     (out : SinkSeen) (answer : Answer) (js : List Log) (lines : ConfigLines) (most : ℕ)
     (old new : NetSeen C O)
-    → (tells ≡ true → set_up shelf.file words.config (λ ls. Serving ls) ≡ Serving lines)
+    → (tells ≡ true → set_up words.sessions shelf.file words.config (λ ls. Serving ls) ≡ Serving lines)
     → IsUnfailed shelf shelf' → EndsNet answer most old new → js ≡ []
     → IsPerformed (Serve words) tells out_tells shelf shelf' out out answer js
 performed-served words tells out_tells shelf shelf' out answer js lines most old new told read ended none =
@@ -124,28 +128,49 @@ module _ {C O : Type 0} (Done : Retired C O → Type 0) where
         same are.dialed;
   }
 
+module _ {C O : Type 0} (Note : Noted O → Type 0) (Session : List (Noted O) → Retired C O → Type 0) where
+  -- the same of sessions
+  pub sessions-since : (old mid new : NetSeen C O) → mid.counts.misdials ≡ old.counts.misdials
+      → AreSessions Note Session mid new → AreSessions Note Session old new
+  sessions-since old mid new same are = record {
+    each = are.each;
+    known = are.known;
+    order = are.order;
+    had = are.had;
+    dialed = subst (λ n. (n + sum_by lacked_origin new.retired + sum_by noted_none new.noted
+        ≤ new.counts.misdials) ⊎ (greatest ≤ new.counts.misdials))
+        same are.dialed;
+  }
+
 module _ {C O : Type 0} (client : link.Ghosts C) (origin : link.Ghosts O) (both : upstream.Ghosts O C) where
   -- the net was served under a setup
   pub net-served : (words : ServeWords) (tells net_tells : Bool) (shelf shelf' : ShelfSeen) (answer : Answer)
       (setup : Setup) (old new : NetSeen C O)
-      → (tells ≡ true → set_up shelf.file words.config (λ ls. Serving ls) ≡ Serving (lines_of setup))
-      → (net_tells ≡ true → AreRetired (IsTxnDone client origin both stock_transform setup PLACES) old new)
+      → (tells ≡ true
+      → set_up words.sessions shelf.file words.config (λ ls. Serving ls) ≡ Serving (lines_of setup))
+      → (words.sessions ≡ false → net_tells ≡ true
+      → AreRetired (IsTxnDone client origin both stock_transform setup PLACES) old new)
+      → (words.sessions ≡ true → net_tells ≡ true → HasSessionsIf client origin setup answer old new)
+      → (words.sessions ≡ false → net_tells ≡ true → new.noted ≡ [])
       → IsNetLeft answer words.connections old new
       → IsServedNet client origin both tells net_tells shelf shelf' words (status_of answer) old new
-  net-served words tells net_tells shelf shelf' answer setup old new told are left =
+  net-served words tells net_tells shelf shelf' answer setup old new told are had none left =
       let o : Outcome = outcome_of shelf (Some (Serve words)) in
       let ends : (P : Answer → Type 0) → (EndsNet a.Done words.connections old new → P a.Done)
       → (EndsNet a.Network words.connections old new → P a.Network) → P a.OutOfMemory → P answer =
       λ P d n m. by-end P answer words.connections old new d n m left.ended in
       record {
-        retired = λ net_tell.
-            let all = are net_tell in
+        retired = λ net_tell plain.
+            let all = are plain net_tell in
             record {
               each = λ k d lt. record { setup = setup; given = told; is_done = all.each k d lt };
               once = all.once;
               dialed = all.dialed;
             };
-        one = λ net_tell. inr (record { setup = setup; given = told; are_done = (are net_tell).each });
+        one = λ net_tell plain.
+            inr (record { setup = setup; given = told; are_done = (are plain net_tell).each });
+        sessions = λ net_tell many. at_status (had many net_tell);
+        quiet = λ net_tell plain. none plain net_tell;
         few = left.few;
         no_more = left.no_more;
         shut = left.shut;
@@ -160,6 +185,18 @@ module _ {C O : Type 0} (client : link.Ghosts C) (origin : link.Ghosts O) (both 
             (λ h. absurd (net h.2)) (inr refl);
       }
     where
+      at_status : HasSessionsIf client origin setup answer old new
+          → IsHandedNone new ⊎ HadSessionsAt client origin tells (outcome_of shelf (Some (Serve words)))
+          (status_of answer) old new
+      at_status (inl none) = inl none
+      at_status (inr all) = inr (record {
+        setup = setup;
+        given = told;
+        last = all.last;
+        had = all.had;
+        spent = λ other. all.spent (λ lacks. other (ap status_of lacks));
+      })
+
       whole : IsFileStatus (status_of a.Done) → ⊥
       whole (inl is) = omega (arith, is)
       whole (inr (inl is)) = omega (arith, is)
@@ -179,12 +216,15 @@ module _ {C O : Type 0} (client : link.Ghosts C) (origin : link.Ghosts O) (both 
   pub net-unserved : (words : ServeWords) (tells net_tells : Bool) (shelf shelf' : ShelfSeen)
       (answer : Answer)
       (old : NetSeen C O) → IsFreshNet old
-      → (tells ≡ true → ComesAt words.config [] answer (set_up shelf.file words.config (λ ls. Serving ls)))
+      → (tells ≡ true → ComesAt words.config [] answer
+      (set_up words.sessions shelf.file words.config (λ ls. Serving ls)))
       → IsOfReading answer shelf shelf'
       → IsServedNet client origin both tells net_tells shelf shelf' words (status_of answer) old old
   net-unserved words tells net_tells shelf shelf' answer old fresh told cause = record {
-    retired = λ net_tell. none-retired _ old old fresh refl;
-    one = λ net_tell. inl fresh.retired;
+    retired = λ net_tell plain. none-retired _ old old fresh refl;
+    one = λ net_tell plain. inl fresh.retired;
+    sessions = λ net_tell many. inl (record { retired = fresh.retired; noted = fresh.noted });
+    quiet = λ net_tell plain. fresh.noted;
     few = subst (λ n. n ≤ words.connections) (sym fresh.given) (omega arith);
     no_more = let given = fresh.given in let handed = fresh.handed in omega arith;
     shut = inl refl;

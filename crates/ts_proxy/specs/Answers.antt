@@ -15,7 +15,6 @@ use Rattle.ts_config.specs.Setup.{ConfigLines, HasSameFiles, file_at, lines_of, 
 use Rattle.ts_config.specs.declared.setup.Setup.{Setup}
 use Rattle.ts_config.specs.Value.{Good, config_of}
 use Rattle.ts_proxy.specs.Outcome.{Outcome, Usage, BadLine, Long, Text, Report, Summary, Serving}
-use Rattle.ts_proxy.specs.Idle.{first_idle}
 use Rattle.ts_proxy.specs.Outcome.{lines_filled, most_config, set_up}
 use Rattle.ts_proxy.specs.Summary.{IsSummaryOf}
 use Rattle.ts_proxy.specs.Took.{TookNothing, TookSome, TookWhole}
@@ -101,13 +100,11 @@ pub record ReachesFile (files : List ℕ → Option (List ℕ)) (places : List F
   pub names : IsNamedAt lines place f
   pub read : HasOutput (lines_filled files before lines (λ ls. Text []))
 
--- these are lines in the grammar, with the places of their files, some part of the program acts on each, and
--- the work on them comes to a file
+-- these are lines in the grammar, with the places of their files, and the work on them comes to a file
 pub record ReachesIn (files : List ℕ → Option (List ℕ)) (bytes : List ℕ) (f : NamedFile) : Type 0 where
   pub lines : ConfigLines
   pub places : List FilePlace
   pub reading : config_of bytes ≡ Good lines places
-  pub acted : first_idle bytes ≡ None
   pub reaches : ReachesFile files places lines f
 
 -- the configuration is there within its limit, and the work on its lines comes to a file
@@ -119,7 +116,7 @@ IsReadFor files config f =
 -- names; and the input, once all the others were read
 abbrev pub IsReadBy : ShelfSeen → List ℕ → NamedFile → Type 0
 IsReadBy shelf config file.Config = ⊤
-IsReadBy shelf config file.Input = HasOutput (set_up shelf.file config (λ lines. Text []))
+IsReadBy shelf config file.Input = HasOutput (set_up false shelf.file config (λ lines. Text []))
 IsReadBy shelf config (file.Appended name) = IsReadFor shelf.file config (file.Appended name)
 
 -- the file is a configuration, or one that a line of it names

@@ -1,6 +1,5 @@
 pub mod Answers
 pub mod Ends
-pub mod Idle
 pub mod Journals
 pub mod Lines
 pub mod Outcome

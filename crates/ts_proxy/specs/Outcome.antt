@@ -1,14 +1,13 @@
 -- What a command comes to if nothing fails: a function of its words and of the files. It is the first trouble
 -- in the order of the work, or the text that is written.
-use Rattle.std.specs.Prelude.{ℕ, nat_le, List, [], ◌∷◌, length, Option, Some, None, if◌then◌else◌}
+use Rattle.std.specs.Prelude.{ℕ, nat_le, Bool, false, List, [], ◌∷◌, length, Option, Some, None}
+use Rattle.std.specs.Prelude.{if◌then◌else◌}
 use Rattle.ts_link.specs.Seen.{ShelfSeen}
 use Rattle.ts_config.specs.declared.setup.FilePlace.{FilePlace}
 use Rattle.ts_config.specs.declared.setup.ConfigKind.{ConfigKind}
-use Rattle.ts_config.specs.declared.setup.ConfigKind.TheVariants as k
-use Rattle.ts_config.specs.Setup.{ConfigLines, file_at, with_file}
+use Rattle.ts_config.specs.Setup.{ConfigLines, file_at, in_order, with_file}
 use Rattle.ts_config.specs.Value.{Reading, Good, Bad, config_of}
 use Rattle.ts_config.specs.Bodies.{compose_lines}
-use Rattle.ts_proxy.specs.Idle.{first_idle}
 use Rattle.ts_proxy.specs.Words.{Command, Transform, Replay, Task, Over, Make, Serve}
 use Rattle.ts_proxy.specs.declared.command.GenerateTask.{GenerateTask}
 
@@ -48,11 +47,6 @@ abbrev pub understood : Reading → (ConfigLines → List FilePlace → Outcome)
 understood (Good lines places) next = next lines places
 understood (Bad n kind) next = BadLine n kind
 
--- goes on where some part of the program acts on each line; the first on which none does is named
-abbrev pub acted : Option ℕ → Outcome → Outcome
-acted None next = next
-acted (Some n) next = BadLine n k.Arguments
-
 -- goes on with the lines, of which the one at this place has the text of the file of this name
 abbrev pub named_filled : (List ℕ → Option (List ℕ)) → Option (List ℕ) → FilePlace → ConfigLines
     → (ConfigLines → Outcome) → Outcome
@@ -72,12 +66,12 @@ lines_filled files [] lines next = next lines
 lines_filled files (p ∷ ps) lines next =
     place_filled files p lines (λ filled. lines_filled files ps filled next)
 
--- a configuration is read and understood, some part of the program acts on each line, and the files of its
--- lines are read in the order of the text
-abbrev pub set_up : (List ℕ → Option (List ℕ)) → List ℕ → (ConfigLines → Outcome) → Outcome
-set_up files config next =
+-- a configuration is read and understood, the files of its lines are read in the order of the text, and what
+-- comes behind has the lines that act: those of a session only where there are sessions
+abbrev pub set_up : Bool → (List ℕ → Option (List ℕ)) → List ℕ → (ConfigLines → Outcome) → Outcome
+set_up sessions files config next =
     opened (files config) most_config config (λ bytes. understood (config_of bytes)
-    (λ lines places. acted (first_idle bytes) (lines_filled files places lines next)))
+    (λ lines places. lines_filled files places lines (λ filled. next (in_order sessions filled))))
 
 -- what a command makes of the lines and its input: `transform` passes a body through the transform lines, and
 -- lines of other kinds have no effect on it; `replay` runs a recording under all of them
@@ -85,14 +79,15 @@ abbrev pub worked : Command → ConfigLines → List ℕ → Outcome
 worked Transform lines input = Text (compose_lines lines.transforms input)
 worked Replay lines input = Report lines input
 
--- the outcome of a command over files: the configuration is set up, then the input is read
+-- the outcome of a command over files, which has no sessions: the configuration is set up, then the input is
+-- read
 abbrev pub performed : Command → (List ℕ → Option (List ℕ)) → List ℕ → List ℕ → Outcome
 performed command files config input =
-    set_up files config (λ lines. opened (files input) most_input input (worked command lines))
+    set_up false files config (λ lines. opened (files input) most_input input (worked command lines))
 
 -- the outcome of a task over the files of a shelf; without one the words are of no command
 abbrev pub outcome_of : ShelfSeen → Option Task → Outcome
 outcome_of shelf None = Usage
 outcome_of shelf (Some (Over command config input)) = performed command shelf.file config input
 outcome_of shelf (Some (Make numbers)) = Summary numbers
-outcome_of shelf (Some (Serve words)) = set_up shelf.file words.config (λ lines. Serving lines)
+outcome_of shelf (Some (Serve words)) = set_up words.sessions shelf.file words.config (λ lines. Serving lines)

@@ -1,12 +1,14 @@
 -- What `serve` leaves of the net: what it was handed, and why serving it ended.
-use Rattle.std.specs.Prelude.{◌≡◌, ◌≤◌, ◌⊎◌, ⊤, ℕ, [], All, List, Bool, true, Option, Some}
+use Rattle.std.specs.Prelude.{◌≡◌, ◌≢◌, ◌≤◌, ◌⊎◌, ⊤, ℕ, [], All, List, Bool, false, true, Option, Some}
 use Rattle.ts_config.specs.Setup.{lines_of}
 use Rattle.ts_config.specs.declared.setup.Setup.{Setup}
 use Rattle.ts_link.specs.Counts.{Rose}
 use Rattle.ts_link.specs.Seen.{ShelfSeen}
+use Rattle.ts_history.specs.Sessions.{IsLastOf, IsNote, IsSessionOf, IsSpent}
 use Rattle.ts_link.specs.declared.link.Link as link
-use Rattle.ts_serve.specs.Served.{AreRetired, HandsAllOver, HasNotFailed, IsNotClosed}
+use Rattle.ts_serve.specs.Served.{AreRetired, AreSessions, HandsAllOver, HasNotFailed, IsNotClosed}
 use Rattle.ts_history.specs.Done.{IsTxnDone}
+use Rattle.ts_serve.specs.Notes.{HadSessions}
 use Rattle.ts_serve.specs.declared.acceptor.TheConstants.{PLACES}
 use Rattle.ts_stock.specs.StockTransform.{stock_transform}
 use Rattle.ts_txn.specs.Net.{NetSeen}
@@ -40,6 +42,37 @@ pub record IsNetLeft {C O : Type 0} (answer : Answer) (most : ℕ) (old new : Ne
   pub shut : HasNotFailed old new ⊎ IsNotClosed old new
   pub ended : EndsNet answer most old new
 
+-- What a net that tells was handed and was noted while it was served by sessions under a setup: of each client
+-- that was handed over its last transaction is done as if it were alone, and it had its session; and unless
+-- memory lacked, nothing is left over of one that could have gone on.
+pub record HasSessionsUnder {C O : Type 0} (client : link.Ghosts C) (origin : link.Ghosts O) (setup : Setup)
+    (answer : Answer) (old new : NetSeen C O) : Type 0 where
+  pub last : AreRetired (IsLastOf client origin stock_transform setup PLACES) old new
+  pub had : AreSessions (IsNote client origin stock_transform setup PLACES)
+      (IsSessionOf client origin stock_transform setup PLACES) old new
+  pub spent : answer ≢ a.OutOfMemory → HadSessions (IsSpent client origin stock_transform setup PLACES) new
+
+-- nothing was handed to it, and nothing noted
+pub record IsHandedNone {C O : Type 0} (net : NetSeen C O) : Type 0 where
+  pub retired : net.retired ≡ []
+  pub noted : net.noted ≡ []
+
+-- One setup stands behind all sessions, and where the files are told, it is the one that they give.
+pub record HadSessionsAt {C O : Type 0} (client : link.Ghosts C) (origin : link.Ghosts O) (tells : Bool)
+    (o : Outcome) (n : ℕ) (old new : NetSeen C O) : Type 0 where
+  pub setup : Setup
+  pub given : tells ≡ true → o ≡ Serving (lines_of setup)
+  pub last : AreRetired (IsLastOf client origin stock_transform setup PLACES) old new
+  pub had : AreSessions (IsNote client origin stock_transform setup PLACES)
+      (IsSessionOf client origin stock_transform setup PLACES) old new
+  pub spent : n ≢ out_of_memory → HadSessions (IsSpent client origin stock_transform setup PLACES) new
+
+-- it was handed nothing, or had such sessions
+abbrev pub HasSessionsIf : {C O : Type 0} → link.Ghosts C → link.Ghosts O → Setup → Answer → NetSeen C O
+    → NetSeen C O → Type 0
+HasSessionsIf client origin setup answer old new =
+    IsHandedNone new ⊎ HasSessionsUnder client origin setup answer old new
+
 module _ {C O : Type 0} (client : link.Ghosts C) (origin : link.Ghosts O) (both : upstream.Ghosts O C) where
   -- What is left of a transaction that has ended under a setup; where the files are told, that is the one
   -- that they give.
@@ -58,12 +91,21 @@ module _ {C O : Type 0} (client : link.Ghosts C) (origin : link.Ghosts O) (both 
   -- What serving a net came to, and what that leaves of it.
   pub record IsServedNet (tells net_tells : Bool) (shelf shelf' : ShelfSeen) (words : ServeWords) (n : ℕ)
       (old new : NetSeen C O) : Type 0 where
-    -- each client that was handed over is one that the net gave, which has ended under the lines of the files
-    pub retired : net_tells ≡ true
+    -- each client that was handed over is one that the net gave, which has ended under the lines of the
+    -- files, where a connection carries one transaction
+    pub retired : net_tells ≡ true → words.sessions ≡ false
         → AreRetired (IsDoneAt tells (outcome_of shelf (Some (Serve words)))) old new
     -- and all of them under one setup, if there is one
-    pub one : net_tells ≡ true
+    pub one : net_tells ≡ true → words.sessions ≡ false
         → (new.retired ≡ []) ⊎ HaveOneSetup tells (outcome_of shelf (Some (Serve words))) new.retired
+    -- where a connection carries several, the last transaction of each client that was handed over has ended
+    -- under the lines of the files, and it had its session under them; and unless memory lacked, nothing is
+    -- left over of one that could have gone on
+    pub sessions : net_tells ≡ true → words.sessions ≡ true
+        → IsHandedNone new
+        ⊎ HadSessionsAt client origin tells (outcome_of shelf (Some (Serve words))) n old new
+    -- and where a connection carries one, nothing was noted
+    pub quiet : net_tells ≡ true → words.sessions ≡ false → new.noted ≡ []
     -- it gave no more than were asked for
     pub few : new.given ≤ words.connections
     -- and was handed no more than it gave

@@ -7,7 +7,6 @@ mod command;
 mod drive;
 mod filling;
 mod generate;
-mod idle;
 mod laws;
 mod number;
 mod reading;

@@ -1,9 +1,7 @@
 //! The files of a command are read in the order of the work: the configuration, the files of its lines, and
 //! then the body or the recording.
-ghost use Rattle.std.specs.Prelude.{◌≡◌, List, ℕ, true, IfOk, IfErr, OnOk};
+ghost use Rattle.std.specs.Prelude.{◌≡◌, List, ℕ, false, true, IfOk, IfErr, OnOk};
 ghost use Rattle.ts_config.specs.Setup.{ConfigLines, lines_of};
-ghost use Rattle.ts_config.specs.declared.setup.ConfigKind.TheVariants as k;
-ghost use Rattle.ts_proxy.specs.declared.answer.Answer.TheVariants as a;
 ghost use Rattle.ts_proxy.specs.Outcome.{Outcome, performed, set_up, worked};
 ghost use Rattle.ts_proxy.specs.Words.{Command};
 ghost use Rattle.ts_proxy.specs.Answers.{Leads, IsOfConfig, IsOfReading, IsUnfailed, OnCannotRead, IsReadBy};
@@ -11,10 +9,9 @@ ghost use Rattle.ts_replay.specs.Recorded.{HasPlainLines};
 
 use crate::answer::{Answer, NamedFile, refused};
 use crate::filling::fill_setup;
-use crate::idle::first_idle;
 use std::alloc::Global;
-use ts_config::{ConfigFault, ConfigKind, ConfigRefusal, Setup, read_config};
-use ts_link::{NoMemory, Octets, Shelf};
+use ts_config::{ConfigRefusal, Setup, read_config};
+use ts_link::{Octets, Shelf};
 
 const MOST_CONFIG: u64 = 1_048_576;
 
@@ -28,21 +25,16 @@ pub struct Files {
     pub input: Octets,
 }
 
-// The answer where no part of the program acts on the line of this number.
-fn idle_line(line: u64) -> Answer
-    ensures { result ≡ a.BadLine (record { line = line; kind = k.Arguments }) }
-{
-    Answer::BadLine(ConfigFault {
-        line,
-        kind: ConfigKind::Arguments,
-    })
-}
-
-/// The lines of a configuration, which the shelf has under this name, with the texts of the files that they
-/// name.
-pub fn set_up<S: Shelf>(alloc: Global, shelf: &mut S, config: &str) -> Result<Setup, Answer>
+/// The lines of a configuration that act, with sessions or without, in the order in which they act. The shelf
+/// has the configuration under this name, and the texts of the files that its lines name.
+pub fn set_up<S: Shelf>(
+    alloc: Global,
+    shelf: &mut S,
+    config: &str,
+    sessions: bool,
+) -> Result<Setup, Answer>
     ensures told { S.tells ≡ true → (input : List ℕ) (next : ConfigLines → Outcome) →
-        Leads config.now input result (set_up (S.seen shelf.old).file config.now next)
+        Leads config.now input result (set_up sessions (S.seen shelf.old).file config.now next)
         (λ s. next (lines_of s)) }
     ensures named { S.tells ≡ true →
         IfErr result (λ e. OnCannotRead e (IsReadBy (S.seen shelf.old) config.now)) }
@@ -56,18 +48,21 @@ pub fn set_up<S: Shelf>(alloc: Global, shelf: &mut S, config: &str) -> Result<Se
         Ok(bytes) => bytes,
         Err(fault) => return Err(refused(fault, NamedFile::Config)),
     };
-    match read_config(alloc, bytes.bytes()) {
-        Ok(setup) => match first_idle(alloc, bytes.bytes()) {
-            Ok(None) => fill_setup(alloc, shelf, setup),
-            Ok(Some(line)) => Err(idle_line(line)),
-            Err(NoMemory) => Err(Answer::OutOfMemory),
+    let setup = match read_config(alloc, bytes.bytes()) {
+        Ok(setup) => setup,
+        Err(ConfigRefusal::Fault(fault)) => return Err(Answer::BadLine(fault)),
+        Err(ConfigRefusal::NoMemory) => return Err(Answer::OutOfMemory),
+    };
+    match fill_setup(alloc, shelf, setup) {
+        Ok(setup) => match setup.ordered(alloc, sessions) {
+            Ok(setup) => Ok(setup),
+            Err(_) => Err(Answer::OutOfMemory),
         },
-        Err(ConfigRefusal::Fault(fault)) => Err(Answer::BadLine(fault)),
-        Err(ConfigRefusal::NoMemory) => Err(Answer::OutOfMemory),
+        Err(answer) => Err(answer),
     }
 }
 
-/// Reads the files of a command, which the shelf has under these names.
+/// Reads the files of a command without sessions, which the shelf has under these names.
 pub fn read_files<S: Shelf>(
     alloc: Global,
     shelf: &mut S,
@@ -83,7 +78,7 @@ pub fn read_files<S: Shelf>(
     ensures same { OnOk result (IsUnfailed (S.seen shelf.old) (S.seen shelf.new)) }
     ensures cause { IfErr result (λ e. IsOfReading e (S.seen shelf.old) (S.seen shelf.new)) }
 {
-    let setup = match set_up(alloc, shelf, config) {
+    let setup = match set_up(alloc, shelf, config, false) {
         Ok(setup) => setup,
         Err(answer) => return Err(answer),
     };

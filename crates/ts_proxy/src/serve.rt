@@ -1,10 +1,11 @@
 //! The command `serve`: a net is served under a configuration, by event threads.
-ghost use Rattle.std.specs.Prelude.{◌≡◌, ◌<◌, ◌≤◌, Bool, true};
+ghost use Rattle.std.specs.Prelude.{◌≡◌, ◌<◌, ◌≤◌, [], Bool, false, true};
 ghost use Rattle.std.specs.Arc.{arc_value};
 ghost use Rattle.ts_link.specs.Seen.{SinkSeen};
 ghost use Rattle.ts_proxy.specs.Ends.{status_of};
 ghost use Rattle.ts_proxy.specs.Performed.{IsPerformed};
-ghost use Rattle.ts_proxy.specs.Serving.{IsLetBegin, IsNetLeft, IsServedNet};
+ghost use Rattle.ts_proxy.specs.Serving.{HasSessionsIf, HasSessionsUnder, IsLetBegin, IsNetLeft};
+ghost use Rattle.ts_proxy.specs.Serving.{IsServedNet};
 ghost use Rattle.ts_proxy.specs.Words.{Serve};
 ghost use Rattle.ts_replay.specs.Recorded.{HasPlainLines};
 ghost use Rattle.ts_serve.specs.Served.{AreRetired};
@@ -22,20 +23,18 @@ use std::sync::{Arc, Wait};
 use std::thread::Threads;
 use ts_config::Setup;
 use ts_link::{Clock, Gate, Shelf};
-use ts_serve::{Host, Served, serve_transactions};
+use ts_serve::{Host, Served, serve_sessions, serve_transactions};
 use ts_stock::Stock;
 use ts_txn::{Began, Net};
 use ts_words::ServeTask;
 
-// Serves a net that has begun to listen, under the lines of a configuration.
-fn serve_begun<N: Net, G: Gate + Sync, C: Clock + Sync, R: Threads + Wait + Sync>(
-    rt: &R,
-    alloc: Global,
+// Serves a net that has begun to listen, under the lines of a configuration. Each connection carries one
+// transaction.
+fn serve_by_transactions<N: Net, G: Gate + Sync, C: Clock + Sync, R: Threads + Wait + Sync>(
+    host: &Host<'_, G, C, R>,
     task: &ServeTask<'_>,
     setup: Arc<Setup>,
     net: &mut N,
-    clock: &C,
-    gate: &G,
 ) -> Answer
     requires lines { HasPlainLines (arc_value setup) }
     requires threads { (0 < task.now.threads) × (task.now.threads ≤ MOST_THREADS) }
@@ -43,16 +42,11 @@ fn serve_begun<N: Net, G: Gate + Sync, C: Clock + Sync, R: Threads + Wait + Sync
     ensures retired { N.tells ≡ true → AreRetired
         (IsTxnDone N.Client.Link N.Origin.Link N.Origin.Upstream.own stock_transform (arc_value setup) PLACES)
         (N.seen net.old) (N.seen net.new) }
+    ensures noted { N.tells ≡ true → (N.seen net.new).noted ≡ [] }
     ensures left { IsNetLeft result task.now.connections (N.seen net.old) (N.seen net.new) }
 {
-    let host = Host {
-        rt,
-        alloc,
-        gate,
-        clock,
-    };
     match serve_transactions::<N, Stock, G, C, R>(
-        &host,
+        host,
         setup,
         task.threads,
         task.connections,
@@ -62,6 +56,51 @@ fn serve_begun<N: Net, G: Gate + Sync, C: Clock + Sync, R: Threads + Wait + Sync
         Served::Failed => Answer::Network,
         Served::NoMemory => Answer::OutOfMemory,
     }
+}
+
+// The same, where each connection carries several transactions, one after the other.
+fn serve_by_sessions<N: Net, G: Gate + Sync, C: Clock + Sync, R: Threads + Wait + Sync>(
+    host: &Host<'_, G, C, R>,
+    task: &ServeTask<'_>,
+    setup: Arc<Setup>,
+    net: &mut N,
+) -> Answer
+    requires lines { HasPlainLines (arc_value setup) }
+    requires threads { (0 < task.now.threads) × (task.now.threads ≤ MOST_THREADS) }
+    requires net { IsFreshNet (N.seen net.old) }
+    ensures sessions { N.tells ≡ true → HasSessionsUnder N.Client.Link N.Origin.Link (arc_value setup) result
+        (N.seen net.old) (N.seen net.new) }
+    ensures left { IsNetLeft result task.now.connections (N.seen net.old) (N.seen net.new) }
+{
+    match serve_sessions::<N, Stock, G, C, R>(host, setup, task.threads, task.connections, net) {
+        Served::Whole => Answer::Done,
+        Served::Failed => Answer::Network,
+        Served::NoMemory => Answer::OutOfMemory,
+    }
+}
+
+// Serves a net that has begun to listen, under the lines of a configuration, as it is asked for.
+fn serve_begun<N: Net, G: Gate + Sync, C: Clock + Sync, R: Threads + Wait + Sync>(
+    host: &Host<'_, G, C, R>,
+    task: &ServeTask<'_>,
+    setup: Arc<Setup>,
+    net: &mut N,
+) -> Answer
+    requires lines { HasPlainLines (arc_value setup) }
+    requires threads { (0 < task.now.threads) × (task.now.threads ≤ MOST_THREADS) }
+    requires net { IsFreshNet (N.seen net.old) }
+    ensures retired { task.now.sessions ≡ false → N.tells ≡ true → AreRetired
+        (IsTxnDone N.Client.Link N.Origin.Link N.Origin.Upstream.own stock_transform (arc_value setup) PLACES)
+        (N.seen net.old) (N.seen net.new) }
+    ensures noted { task.now.sessions ≡ false → N.tells ≡ true → (N.seen net.new).noted ≡ [] }
+    ensures sessions { task.now.sessions ≡ true → N.tells ≡ true → HasSessionsUnder N.Client.Link
+        N.Origin.Link (arc_value setup) result (N.seen net.old) (N.seen net.new) }
+    ensures left { IsNetLeft result task.now.connections (N.seen net.old) (N.seen net.new) }
+{
+    if task.sessions {
+        return serve_by_sessions(host, task, setup, net);
+    }
+    serve_by_transactions(host, task, setup, net)
 }
 
 // Lets a net begin to listen, and serves it under the lines of a configuration.
@@ -77,9 +116,12 @@ fn serve_net<N: Net, G: Gate + Sync, C: Clock + Sync, R: Threads + Wait + Sync>(
     requires lines { HasPlainLines setup }
     requires threads { (0 < task.now.threads) × (task.now.threads ≤ MOST_THREADS) }
     requires net { IsFreshNet (N.seen net.old) }
-    ensures retired { N.tells ≡ true → AreRetired
+    ensures retired { task.now.sessions ≡ false → N.tells ≡ true → AreRetired
         (IsTxnDone N.Client.Link N.Origin.Link N.Origin.Upstream.own stock_transform setup PLACES)
         (N.seen net.old) (N.seen net.new) }
+    ensures noted { task.now.sessions ≡ false → N.tells ≡ true → (N.seen net.new).noted ≡ [] }
+    ensures sessions { task.now.sessions ≡ true → N.tells ≡ true → HasSessionsIf N.Client.Link
+        N.Origin.Link setup result (N.seen net.old) (N.seen net.new) }
     ensures left { IsNetLeft result task.now.connections (N.seen net.old) (N.seen net.new) }
     ensures begun { IsLetBegin N.begins (words_of task.now).listen (words_of task.now).origin
         net.old net.new }
@@ -87,8 +129,14 @@ fn serve_net<N: Net, G: Gate + Sync, C: Clock + Sync, R: Threads + Wait + Sync>(
     let Ok(setup) = Arc::new(alloc, setup) else {
         return Answer::OutOfMemory;
     };
+    let host = Host {
+        rt,
+        alloc,
+        gate,
+        clock,
+    };
     match net.begin(task.listen, task.origin) {
-        Began::Ready => serve_begun(rt, alloc, task, setup, net, clock, gate),
+        Began::Ready => serve_begun(&host, task, setup, net),
         Began::Failed => Answer::Network,
         Began::NoMemory => Answer::OutOfMemory,
     }
@@ -115,7 +163,7 @@ pub fn perform_serve<S: Shelf, N: Net, G: Gate + Sync, C: Clock + Sync, R: Threa
     ensures begun { IsLetBegin N.begins (words_of task.now).listen (words_of task.now).origin
         net.old net.new }
 {
-    let setup = match set_up(alloc, shelf, task.config) {
+    let setup = match set_up(alloc, shelf, task.config, task.sessions) {
         Ok(setup) => setup,
         Err(answer) => return Performed::without(alloc, answer),
     };

@@ -10,6 +10,8 @@ mod row;
 #[cfg(test)]
 mod server;
 #[cfg(test)]
+mod session;
+#[cfg(test)]
 mod stated;
 #[cfg(test)]
 mod tests;

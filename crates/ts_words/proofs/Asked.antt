@@ -29,14 +29,19 @@ plain_is name a b c d eb ec ed ea = rw (ed, ec, eb) (ap settled ea)
 pub text_is : (f : Found) (name t : Text) → Some t ≡ first_value f name → t ≡ text_in (rows_of f) name
 text_is f name t is = ap (λ o. unwrap_or o []) (is ∙ first_value-rows f name)
 
+-- no text is there
+pub no_text : (f : Found) (name : Text) → None ≡ first_value f name → text_in (rows_of f) name ≡ []
+no_text f name is = sym (ap (λ o. unwrap_or o []) (is ∙ first_value-rows f name))
+
 pub number_is : (f : Found) (name t : Text) (n : ℕ) → one_text f name ≡ Some t → n ≡ digits_value 10 (without_leading_plus t)
     → n ≡ number_in (rows_of f) name
 number_is f name t n read is =
     is ∙ ap (λ o. digits_value 10 (without_leading_plus (unwrap_or o []))) (sym read ∙ one_text-rows f name)
 
 pub same_words : (a b : ServeWords) → a.listen ≡ b.listen → a.origin ≡ b.origin → a.config ≡ b.config → a.threads ≡ b.threads
-    → a.connections ≡ b.connections → a ≡ b
-same_words a b l o c t n = λ i. record { listen = l i; origin = o i; config = c i; threads = t i; connections = n i }
+    → a.connections ≡ b.connections → a.sessions ≡ b.sessions → a ≡ b
+same_words a b l o c t n s =
+    λ i. record { listen = l i; origin = o i; config = c i; threads = t i; connections = n i; sessions = s i }
 
 -- where the parse succeeds, the words ask for what was found
 pub asked_there : (a : App) (words : List Text) (asked : ServeWords) (rows : List Row) → a ≡ serve_app → fault_of a words ≡ []

@@ -105,7 +105,7 @@ module _ (c : Command) (m : ArgMatches) (shape : app_of c ≡ serve_app) (p : Is
         is_simple_command.groups,
       )
 
-  counted : length (args_of c) ≡ 5
+  counted : length (args_of c) ≡ 6
   counted = sym (length-map (args_of c) rule_of) ∙ ap length rules_are
 
   one_name : (j k : ℕ) (d e : Arg) → j < length (args_of c) → k < length (args_of c)
@@ -120,7 +120,7 @@ module _ (c : Command) (m : ArgMatches) (shape : app_of c ≡ serve_app) (p : Is
       (subst (λ (r : Rule). bytes_eq (slice_index_or (args_of c) j e).id.now r.id ≡ true) right same) in
       one_place serve_rules j k (rule_of e) (rule_of d) refl (subst (λ n. j < n) counted low) (subst (λ n. k < n) counted high) as_rules
 
-  module _ (k : ℕ) (d : Arg) (name : Text) (high : k < 5) (own : IsOwnName name) where
+  module _ (k : ℕ) (d : Arg) (name : Text) (high : k < 6) (own : IsOwnName name) where
     within : k < length (args_of c)
     within = subst (λ n. k < n) (sym counted) high
 

@@ -1,10 +1,11 @@
--- What the words after `serve` ask for: they are one simple command of `clap`, with five options and no
--- positional word.
-use Rattle.std.specs.Prelude.{◌≤◌, ℕ, pos, true, List, [], ◌∷◌, Option, Some, None, codes, unwrap_or}
+-- What the words after `serve` ask for: they are one simple command of `clap`, with five options, a flag and
+-- no positional word.
+use Rattle.std.specs.Prelude.{◌≤◌, ℕ, pos, Bool, true, List, [], ◌∷◌, Option, Some, None, codes, unwrap_or}
+use Rattle.std.specs.Str.{bytes_eq}
 use Rattle.std.specs.Str.Parse.{digits_value, without_leading_plus}
 use Rattle.clap.specs.Words.{App, Kinds, Row, Rule, Text, fault_of, first_of, matches_of, new_app, new_rule}
 use Rattle.clap.specs.Words.{one_of}
-use Rattle.clap.specs.declared.builder.action.ArgAction.TheVariants.{Set}
+use Rattle.clap.specs.declared.builder.action.ArgAction.TheVariants.{Set, SetTrue}
 use Rattle.clap.specs.declared.builder.value_parser.ValueParser.TheVariants as vp
 use Rattle.ts_thread.specs.declared.TheConstants.{MOST_THREADS}
 use Rattle.ts_words.specs.declared.serve.ServeTask.{ServeTask}
@@ -25,6 +26,10 @@ number_option name other most = record (new_rule name) {
   parser = Some (vp.Signed (pos 1) (pos most));
 }
 
+-- a flag `--NAME`, which may be there
+abbrev pub flag_option : Text → Rule
+flag_option name = record (new_rule name) { long = Some name; action = Some SetTrue }
+
 -- the number of threads where none is named
 abbrev pub other_threads : Text
 other_threads = codes "1"
@@ -42,7 +47,8 @@ abbrev pub serve_rules : List Rule
 serve_rules =
     text_option (codes "listen") ∷ text_option (codes "origin") ∷ text_option (codes "config")
     ∷ number_option (codes "threads") other_threads MOST_THREADS
-    ∷ number_option (codes "connections") other_connections most_connections ∷ []
+    ∷ number_option (codes "connections") other_connections most_connections
+    ∷ flag_option (codes "sessions") ∷ []
 
 -- the simple command, which has neither a flag for help nor one for its version
 abbrev pub serve_app : App
@@ -74,14 +80,19 @@ text_in rows name = unwrap_or (first_of name rows) []
 abbrev pub number_in : List Row → Text → ℕ
 number_in rows name = digits_value 10 (without_leading_plus (unwrap_or (one_of name rows) []))
 
--- what is served: where clients connect, the origin, the configuration by name, on how many threads, and
--- after how many connections it ends
+-- whether a flag is there
+abbrev pub flag_in : List Row → Text → Bool
+flag_in rows name = bytes_eq (text_in rows name) (codes "true")
+
+-- what is served: where clients connect, the origin, the configuration by name, on how many threads, after
+-- how many connections it ends, and whether a connection carries several requests
 pub record ServeWords : Type 0 where
   pub listen : Text
   pub origin : Text
   pub config : Text
   pub threads : ℕ
   pub connections : ℕ
+  pub sessions : Bool
 
 -- what the options say
 abbrev pub words_in : List Row → ServeWords
@@ -91,6 +102,7 @@ words_in rows = record {
   config = text_in rows (codes "config");
   threads = number_in rows (codes "threads");
   connections = number_in rows (codes "connections");
+  sessions = flag_in rows (codes "sessions");
 }
 
 -- what is asked for, unless there is a kind of fault
@@ -119,4 +131,5 @@ words_of task = record {
   config = task.config.now;
   threads = task.threads;
   connections = task.connections;
+  sessions = task.sessions;
 }

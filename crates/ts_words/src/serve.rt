@@ -1,9 +1,10 @@
 //! What the words after `serve` ask for: where clients connect, the origin, the configuration, the number of
-//! threads, and after how many connections to end.
+//! threads, after how many connections to end, and whether a connection carries several requests.
 ghost use Rattle.std.specs.Prelude.{◌≡◌, ◌<◌, ℕ, false, map, option_map, string_bytes, IfOk, IfSome, Some};
 ghost use Rattle.clap.specs.Words.{app_of, first_value, found_of, rule_of, rows_of};
 ghost use Rattle.ts_words.specs.Found.{HoldsNumber, HoldsText, IsFound, IsUpTo, u32_numbers};
-ghost use Rattle.ts_words.specs.Serve.{IsInRange, number_in, number_option, serve_app, serve_asked, text_option, words_in, words_of};
+ghost use Rattle.ts_words.specs.Serve.{IsInRange, flag_in, flag_option, number_in, number_option, serve_app};
+ghost use Rattle.ts_words.specs.Serve.{serve_asked, text_option, words_in, words_of};
 
 use clap::builder::ValueParser;
 use clap::error::ErrorKind;
@@ -28,6 +29,8 @@ pub struct ServeTask<'a> {
     pub threads: u32,
     /// After how many connections it ends.
     pub connections: u32,
+    /// Whether a connection carries several requests, one after the other.
+    pub sessions: bool,
 }
 
 // An option with a text, which has to be there.
@@ -53,6 +56,14 @@ fn number_option<'a>(alloc: Global, name: &'a str, other: &'a str, most: u32) ->
         .value_parser(ValueParser::signed(1, i64::from(most)))
 }
 
+// An option without a value, which may be there.
+fn flag_option<'a>(alloc: Global, name: &'a str) -> Arg<'a>
+    ensures rule { rule_of result ≡ flag_option name.entry.now }
+    ensures local { result.global ≡ false }
+{
+    Arg::new(alloc, name).long(name).action(ArgAction::SetTrue)
+}
+
 // The command that reads the words.
 fn serve_command<'a>(alloc: Global) -> Result<Command<'a>, AllocError>
     ensures { IfOk result (λ c. app_of c ≡ serve_app) }
@@ -62,6 +73,7 @@ fn serve_command<'a>(alloc: Global) -> Result<Command<'a>, AllocError>
     let config = text_option(alloc, "config");
     let threads = number_option(alloc, "threads", "1", MOST_THREADS);
     let connections = number_option(alloc, "connections", "4294967295", MOST_CONNECTIONS);
+    let sessions = flag_option(alloc, "sessions");
     let plain = Command::new(alloc, "serve")
         .no_binary_name(true)
         .disable_help_flag(true)
@@ -71,7 +83,8 @@ fn serve_command<'a>(alloc: Global) -> Result<Command<'a>, AllocError>
     let with_config = with_origin.arg(config)?;
     let with_threads = with_config.arg(threads)?;
     let with_connections = with_threads.arg(connections)?;
-    Ok(with_connections)
+    let with_sessions = with_connections.arg(sessions)?;
+    Ok(with_sessions)
 }
 
 // The text of an option, which a parse of the command found.
@@ -98,6 +111,16 @@ fn number_in(matches: &ArgMatches<'_>, name: &str) -> u32
     number
 }
 
+// Whether a parse of the command found an option without a value: it is true or false then.
+fn flag_in(matches: &ArgMatches<'_>, name: &str) -> bool
+    ensures { result ≡ flag_in (rows_of (found_of matches.now)) name.now }
+{
+    match matches.get_str(name) {
+        Some(text) => text == "true",
+        None => false,
+    }
+}
+
 // What is asked for by words of which a parse of the command found this.
 fn task_of<'a>(matches: &ArgMatches<'a>) -> ServeTask<'a>
     requires { IsFound (found_of matches.now) }
@@ -110,6 +133,7 @@ fn task_of<'a>(matches: &ArgMatches<'a>) -> ServeTask<'a>
         config: text_in(matches, "config"),
         threads: number_in(matches, "threads"),
         connections: number_in(matches, "connections"),
+        sessions: flag_in(matches, "sessions"),
     }
 }
 

@@ -34,4 +34,4 @@ returns-clause-net g c =
     c.serve_net-answer.result
     c.in-Ok.setup (g.N.Net.seen c.args.net.now) (g.N.Net.seen c.serve_net-answer.new.net)
     (λ tells. c.in-Ok.ensures.told tells [] (λ lines. Serving lines)) c.serve_net-answer.ensures.retired
-    c.serve_net-answer.ensures.left)
+    c.serve_net-answer.ensures.sessions c.serve_net-answer.ensures.noted c.serve_net-answer.ensures.left)

@@ -12,5 +12,7 @@ returns c =
     let with_config = c.in_ok-with_config.ensures.shape c.text_option-config.ensures.local ∙ ap₂ with_rule with_origin c.text_option-config.ensures.rule in
     let with_threads = c.in_ok-with_threads.ensures.shape c.number_option-threads.ensures.local
     ∙ ap₂ with_rule with_config c.number_option-threads.ensures.rule in
-    c.in_ok-with_connections.ensures.shape c.number_option-connections.ensures.local
-    ∙ ap₂ with_rule with_threads c.number_option-connections.ensures.rule
+    let with_connections = c.in_ok-with_connections.ensures.shape c.number_option-connections.ensures.local
+    ∙ ap₂ with_rule with_threads c.number_option-connections.ensures.rule in
+    c.in_ok-with_sessions.ensures.shape c.flag_option-sessions.ensures.local
+    ∙ ap₂ with_rule with_connections c.flag_option-sessions.ensures.rule

@@ -11,6 +11,7 @@ returns-clause-words c =
     let f = found_of c.args.matches.now in
     same_words _ (words_in (rows_of f)) (text_is f (codes "listen") _ c.text_in.ensures) (text_is f (codes "origin") _ c.text_in-2.ensures)
     (text_is f (codes "config") _ c.text_in-3.ensures) c.number_in.ensures.value c.number_in-2.ensures.value
+    c.flag_in.ensures
 
 pub returns-clause-range : goal.returns-clause-range
 returns-clause-range c =
