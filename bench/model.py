@@ -208,19 +208,17 @@ PLUGINS = {b"denylist.so": deny_list, b"header.so": header_rule, b"session.so": 
 
 class Config:
     """The lines of each kind in their order: transforms, each a name and its values, hook plugins, request bodies,
-    intercepts and taps. `files` are the names of the files that lines name, in the order of all lines, and `idle` is
-    the first line on which nobody acts yet, None where there is none."""
+    intercepts and taps. `files` are the names of the files that lines name, in the order of all lines."""
 
     def __init__(self):
         self.transforms, self.plugins, self.requests, self.intercepts, self.taps = [], [], [], [], []
-        self.files, self.idle = [], None
+        self.files = []
 
     def add(self, line):
-        """Whether somebody acts on the line."""
         check_text(line)
         words = words_of(line)
         if not words:
-            return True
+            return
         name, *rest = words
         if name in TRANSFORMS:
             self.put_transform(self.transforms, transform_line(name, rest), MOST_TRANSFORMS)
@@ -234,12 +232,15 @@ class Config:
             put(self.taps, tap_line(rest), MOST_TAPS)
         else:
             raise BrokenRule("plugin")
-        return name != b"session.so"
 
     def put_transform(self, lines, line, most):
         put(lines, line, most)
         if line[0] == "append_transform.so":
             self.files.append(line[1])
+
+    def acting_plugins(self):
+        """The lines of hook plugins that act where a connection carries one request: all but the rules of sessions."""
+        return [line for line in self.plugins if line[0] != "session"]
 
     def put_intercept(self, line):
         put(self.intercepts, line, MOST_INTERCEPTS)
@@ -257,11 +258,9 @@ def read_config(text):
     config = Config()
     for number, line in enumerate(config_lines(text), 1):
         try:
-            is_idle = not config.add(line)
+            config.add(line)
         except BrokenRule as kind:
             raise Fault(3, b"configuration line %d: %b" % (number, str(kind).encode())) from None
-        if is_idle and config.idle is None:
-            config.idle = number
     return config
 
 
@@ -410,7 +409,7 @@ def passing_fields(head):
 
 def ruled(fields, config, side):
     """The fields after the header lines of a side."""
-    for line in config.plugins:
+    for line in config.acting_plugins():
         if line[0] == side:
             _, done, name, value = line
             if done != "add":
@@ -506,7 +505,7 @@ def site_of(host):
 
 def is_denied(config, host):
     """Whether the host is a site of some deny list."""
-    return any(line[0] == "deny" and site_of(host) in line[1] for line in config.plugins)
+    return any(line[0] == "deny" and site_of(host) in line[1] for line in config.acting_plugins())
 
 
 def intercept_of(config, host):
@@ -867,8 +866,6 @@ def read_file(name, most):
 def read_setup(name):
     """The configuration of a file, and the texts of the files that its lines name."""
     config = read_config(read_file(name, MOST_CONFIGURATION))
-    if config.idle is not None:
-        raise Fault(3, b"configuration line %d: arguments" % config.idle)
     return config, {file: read_file(file, MOST_TEXT) for file in config.files}
 
 
