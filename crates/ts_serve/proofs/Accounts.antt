@@ -1,6 +1,6 @@
 -- What the steps of the first thread leave of the acceptor and of the net.
 use Rattle.std.specs.Prelude.{Err, IsErrAnd, Ok, OnOk, Result}
-use Rattle.std.proofs.Common.{◌≡◌, ℕ, ◌+◌, ◌<◌, ◌≤◌, Bool, List, refl, sym, ap, ◌∙◌, subst, Option, get_or}
+use Rattle.std.proofs.Common.{◌≡◌, ℕ, ◌+◌, ◌<◌, ◌≤◌, Bool, List, refl, sym, ◌∙◌, subst, Option, get_or}
 use Rattle.std.proofs.Common.{arith}
 use Rattle.ts_link.specs.Counts.{Counted}
 use Rattle.ts_link.specs.declared.link.Link as link
@@ -17,7 +17,6 @@ use Rattle.ts_serve.specs.Arrivals.{Receives}
 use Rattle.ts_serve.specs.Balance.{IsSameRow}
 use Rattle.ts_journal.specs.declared.slotted.Slotted.{Ghosts}
 use Rattle.ts_slot.specs.Words.{view}
-use Rattle.ts_thread.specs.declared.desk.Desk.{Desk}
 use Rattle.ts_thread.specs.Desks.{KeepsDesk}
 use Rattle.ts_serve.specs.Acceptor.{GoesOn, HasShutCause, IsAcceptorOf, IsAccount, KeepsAcceptor}
 use Rattle.ts_serve.specs.Acceptor.{KeepsAccount}

@@ -7,7 +7,6 @@ use Rattle.ts_journal.specs.declared.slotted.Slotted.{Ghosts}
 use Rattle.ts_queue.specs.declared.queue.EventQueue.{EventQueue}
 use Rattle.ts_slot.specs.declared.slots.Slots.{Slots}
 use Rattle.ts_slot.specs.Words.{tags_of, view}
-use Rattle.ts_thread.specs.declared.desk.Desk.{Desk}
 use Rattle.ts_thread.specs.Desks.{IsDeskOf}
 use Rattle.ts_txn.specs.Net.{NetSeen}
 use Rattle.ts_txn.specs.declared.retired.Retired.{Retired}

@@ -1,5 +1,5 @@
 -- A world at a place among the transactions of a client: it is the world, and its place stays.
-use Rattle.std.proofs.Common.{◌≡◌, ℕ}
+use Rattle.std.proofs.Common.{ℕ}
 use Rattle.ts_group.specs.Answers.{KeepsPromises, SetsAtMost, SetsNone}
 use Rattle.ts_group.specs.Context.{Context}
 use Rattle.ts_layers.specs.Links.{ClientEnd, OriginEnd, client_link, origin_link}
@@ -8,7 +8,6 @@ use Rattle.ts_txn.specs.World.{IsTxnOf}
 use Rattle.ts_txn.specs.declared.txn.Txn.{Txn}
 use Rattle.ts_txn.specs.declared.txn.TxnTag.{TxnTag}
 use Rattle.ts_serve.specs.Places.{FitsAtPlace}
-use Rattle.ts_serve.specs.declared.placed.AtPlace.{AtPlace}
 
 module _ {S W : Type 0} (Fits : S → W → Type 0) (place : ℕ) where
   pub placed_promises : {Q R : Type 0} (Right : W → ℕ → Q → R → Type 0) (MayAsk : W → ℕ → Type 0) (old new : W)

@@ -1,8 +1,7 @@
 -- How the first thread goes on with a client whose handler was taken out of its place.
-use Rattle.std.proofs.Common.{◌≡◌, ◌≢◌, ◌∙◌, ℕ, ◌+◌, ◌<◌, inl, inr, List, ◌∷◌, Bool, true, false, Option}
-use Rattle.std.proofs.Common.{Some, None, get_or, length, set, is_some, refl, sym, ap, subst, arith}
+use Rattle.std.proofs.Common.{◌≡◌, ◌∙◌, ℕ, ◌+◌, ◌<◌, inl, inr, List, ◌∷◌, Bool, true, false, Option}
+use Rattle.std.proofs.Common.{Some, None, get_or, length, set, is_some, refl, sym, ap, subst}
 use Rattle.std.specs.Prelude.{IfSome, IsErrAnd, Result, Ok, Err}
-use Rattle.std.specs.List.{sum_by}
 use Rattle.std.proofs.lemmas.List.{get_or-set_other, get_or-set_same, length-set}
 use Rattle.ts_journal.specs.Machine.{HasLived}
 use Rattle.ts_journal.specs.State.{State}
@@ -13,16 +12,13 @@ use Rattle.ts_group.specs.declared.either.EitherTag.{EitherTag}
 use Rattle.ts_group.specs.declared.group.Group.{Group}
 use Rattle.ts_slot.specs.declared.seat.Turn.{Turn}
 use Rattle.ts_slot.specs.declared.view.SeatView.{SeatView}
-use Rattle.ts_slot.specs.Lists.{rest}
 use Rattle.ts_slot.specs.Words.{IsTop}
 use Rattle.ts_thread.specs.Entering.{FindsLived}
 use Rattle.ts_txn.specs.Net.{IsHanded, NetSeen}
 use Rattle.ts_txn.specs.declared.net.NetCounts.{NetCounts}
 use Rattle.ts_txn.specs.declared.retired.Noted.{Noted}
 use Rattle.ts_txn.specs.declared.retired.Retired.{Retired}
-use Rattle.ts_serve.specs.Balance.{HasAll, HasNoMore, IsSameRow}
-use Rattle.ts_serve.specs.Leaving.{BecomesOf, LeavesWhose}
-use Rattle.ts_serve.specs.Starting.{OthersStay}
+use Rattle.ts_serve.specs.Balance.{HasAll}
 use Rattle.ts_serve.specs.Stepping.{ChangesAt, ComesNext, ComesTo, IsNextIn, IsOpened, IsStartedIn}
 use Rattle.ts_serve.specs.Stepping.{KeepsGiven}
 use Rattle.ts_serve.specs.Tenants.{HoldsHandler, IsPlaceOf, MayLive, MayLiveAt}
@@ -39,19 +35,17 @@ use Rattle.ts_serve.proofs.Balance.{all_anew, all_out, no_more_anew, no_more_out
 use Rattle.ts_serve.proofs.Books.{books_anew, books_out}
 use Rattle.ts_serve.specs.Knowledge.{DoneAndSpent, IsServing, KnowsPlace, KnowsSessions, KnownGroups}
 use Rattle.ts_serve.specs.Notes.{AreBooks, NotesAndDials, notes_of}
-use Rattle.ts_serve.proofs.Knowledge.{knows_more, knows_row, server_anew, server_goes, server_in, server_on}
+use Rattle.ts_serve.proofs.Knowledge.{knows_more, server_anew, server_in, server_on}
 use Rattle.ts_serve.proofs.Knowledge.{server_out, server_same}
 use Rattle.ts_thread.specs.Seats.{More}
 use Rattle.ts_txn.specs.Net.{IsHandedNothing}
 use Rattle.ts_serve.specs.Stepping.{Goes, IsFollowed, Proceeds, Waits, next_in}
 use Rattle.ts_serve.specs.Whose.{first_of}
 use Rattle.std.proofs.lemmas.Option.{IfSome_then}
-use Rattle.std.proofs.Common.{◌⊎◌, [], ◌++◌}
+use Rattle.std.proofs.Common.{[], ◌++◌}
 use Rattle.ts_serve.specs.Tenants.{IsEmptyGroup}
-use Rattle.ts_serve.specs.declared.place.Place.TheVariants.{Empty}
 use Rattle.ts_thread.specs.Seats.{KnowsTurn}
 use Rattle.ts_journal.specs.Log.{Base}
-use Rattle.ts_group.specs.declared.either.Either.TheVariants.{One}
 use Rattle.ts_group.specs.declared.either.EitherTag.TheVariants as tag
 use Rattle.ts_group.specs.Either.{EitherFits}
 use Rattle.ts_serve.specs.Places.{PlaceFits}

@@ -3,15 +3,14 @@ use Rattle.std.proofs.Common.{◌≡◌, ◌∙◌, ℕ, ◌+◌, List, [], ◌�
 use Rattle.std.proofs.Common.{is_some, refl, sym, ap, ap₂, subst}
 use Rattle.std.proofs.lemmas.List.{append-nil}
 use Rattle.std.specs.Prelude.{IfSome}
-use Rattle.std.specs.Arc.{arc_value}
 use Rattle.ts_config.specs.declared.setup.Setup.{Setup}
 use Rattle.ts_config.specs.declared.setup.TransformLine.{TransformLine}
-use Rattle.ts_exchange.specs.Ends.{Ends, ends_of}
+use Rattle.ts_exchange.specs.Ends.{ends_of}
 use Rattle.ts_exchange.specs.Left.{number_of}
 use Rattle.ts_exchange.specs.declared.exchange.ExchangeSetting.{ExchangeSetting}
 use Rattle.ts_exchange.specs.declared.exchange.Promise.{Promise}
 use Rattle.ts_group.specs.declared.action.Named.{Named}
-use Rattle.ts_group.specs.declared.either.Either.TheVariants.{One, Other}
+use Rattle.ts_group.specs.declared.either.Either.TheVariants.{One}
 use Rattle.ts_group.specs.declared.either.EitherTag.TheVariants as tag
 use Rattle.ts_history.proofs.Last.{next_stands, waits_behind}
 use Rattle.ts_history.proofs.Standing.{stands_first}
@@ -37,7 +36,6 @@ use Rattle.ts_serve.specs.Exchanges.{whose_of}
 use Rattle.ts_serve.specs.SessionTerms.{ExchangeAt, GoesOnBehind, HasSetting, IsFreshSpan, KeepsExchange}
 use Rattle.ts_serve.specs.SessionTerms.{LivesAs, LivesInSession}
 use Rattle.ts_serve.specs.SessionTerms.{StandsBehindIf, behind_by, whose_at}
-use Rattle.ts_serve.specs.declared.placed.AtPlace.{AtPlace}
 use Rattle.ts_serve.specs.declared.sessions.GoesOn.{GoesOn}
 use Rattle.ts_serve.specs.declared.sessions.SessionTerms.{SessionTerms}
 

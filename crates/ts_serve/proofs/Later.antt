@@ -5,8 +5,6 @@ use Rattle.ts_journal.specs.declared.entry.Pending.{Pending}
 use Rattle.ts_journal.specs.declared.slotted.Slotted.{Ghosts}
 use Rattle.ts_journal.specs.State.{State}
 use Rattle.ts_group.specs.declared.action.Named.{Named}
-use Rattle.ts_group.specs.declared.either.Either.{Either}
-use Rattle.ts_group.specs.declared.either.EitherTag.{EitherTag}
 use Rattle.ts_group.specs.declared.group.Group.{Group}
 use Rattle.ts_slot.specs.Words.{view}
 use Rattle.ts_thread.specs.declared.desk.Desk.{Desk}
@@ -14,7 +12,6 @@ use Rattle.ts_thread.specs.Desks.{KeepsTokens}
 use Rattle.ts_thread.specs.News.{HasPlaceAt, KeepsPlaces}
 use Rattle.ts_thread.specs.Started.{Started}
 use Rattle.ts_thread.specs.Tokens.{Stays}
-use Rattle.ts_serve.specs.declared.place.Place.{Place}
 
 module _ {X G T : Type 0} {d : Ghosts X G T} where
   -- what stays with its thread does so as long as no token is lost

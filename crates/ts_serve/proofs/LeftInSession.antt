@@ -1,6 +1,6 @@
 -- What becomes of a client of a session: its transaction was its last one, or it waits behind it, and goes on
 -- or not.
-use Rattle.std.proofs.Common.{◌≡◌, ◌∙◌, ◌⊎◌, inl, inr, ℕ, ◌+◌, ◌<◌, ◌≤◌, List, [], ◌∷◌, length, Option, Some}
+use Rattle.std.proofs.Common.{◌≡◌, ◌∙◌, ◌⊎◌, inl, inr, ℕ, ◌<◌, List, length, Option, Some}
 use Rattle.std.proofs.Common.{None}
 use Rattle.std.proofs.Common.{Bool, true, false, is_some, refl, sym, ap, subst, arith}
 use Rattle.std.proofs.lemmas.Bool.{lt-ltb}
@@ -9,9 +9,7 @@ use Rattle.ts_config.specs.declared.setup.TransformLine.{TransformLine}
 use Rattle.ts_exchange.specs.Ends.{Ends}
 use Rattle.ts_exchange.specs.Left.{end_of, has_ended}
 use Rattle.ts_group.specs.Either.{EitherFits, EitherSound, either_of}
-use Rattle.ts_group.specs.declared.either.Either.{Either}
 use Rattle.ts_group.specs.declared.either.Either.TheVariants.{One, Other}
-use Rattle.ts_group.specs.declared.either.EitherTag.{EitherTag}
 use Rattle.ts_group.specs.declared.either.EitherTag.TheVariants as tag
 use Rattle.ts_history.proofs.Done.{left_number, txn_done}
 use Rattle.ts_history.proofs.Last.{last_session, last_spent, last_waiting}
@@ -20,7 +18,7 @@ use Rattle.ts_history.specs.Sessions.{HasSession, IsDoneInSession, IsLastOf, IsN
 use Rattle.ts_history.specs.Sessions.{request_of, response_of}
 use Rattle.ts_journal.specs.Log.{Log}
 use Rattle.ts_journal.specs.State.{State}
-use Rattle.ts_layers.specs.Layers.{IsLayeredBetween, LeavesExchange, holds_origin}
+use Rattle.ts_layers.specs.Layers.{IsLayeredBetween, LeavesExchange}
 use Rattle.ts_layers.specs.Links.{ClientEnd, OriginEnd}
 use Rattle.ts_layers.specs.Sessions.{IsLastClient, IsNextSpan, MayGoOn, shown, span_link, spanned_link}
 use Rattle.ts_layers.specs.Sessions.{spanned_origin, unspanned_if, with_client, without_client}
@@ -36,7 +34,6 @@ use Rattle.ts_txn.specs.declared.making.TxnParts.{TxnParts}
 use Rattle.ts_txn.specs.declared.retired.Noted.{Noted}
 use Rattle.ts_txn.specs.declared.retired.Retired.{Retired}
 use Rattle.ts_txn.specs.declared.txn.Txn.{Txn}
-use Rattle.ts_txn.specs.declared.txn.TxnTag.{TxnTag}
 use Rattle.ts_waiting.specs.Waiting.{CountsFault, HasEnded, HoldsAnswer, IsNewWait, IsSoundWait, IsWaitOf}
 use Rattle.ts_waiting.specs.Waiting.{has_answered, is_ready}
 use Rattle.ts_waiting.specs.declared.polling.WaitState.{WaitState}
@@ -50,9 +47,7 @@ use Rattle.ts_serve.specs.SessionTerms.{InSessionTag, ExchangeSound, GoesOnBehin
 use Rattle.ts_serve.specs.SessionTerms.{IsLeftWith, IsSpentBy, KeepsSession, KeepsWaiting, LivesInSession}
 use Rattle.ts_serve.specs.SessionTerms.{StandsBehindIf, StandsWaiting, noted_of_ended, whose_at, whose_waits}
 use Rattle.ts_serve.specs.Tenants.{HasEndedIn, HasStoodIn}
-use Rattle.ts_serve.specs.declared.placed.AtPlace.{AtPlace}
 use Rattle.ts_serve.specs.declared.sessions.Ended.{Ended}
-use Rattle.ts_serve.specs.declared.sessions.GoesOn.{GoesOn}
 use Rattle.ts_serve.specs.declared.sessions.SessionTerms.{SessionTerms}
 use Rattle.ts_serve.specs.declared.whose.TheConstants.{LAST_PLACE}
 

@@ -34,7 +34,7 @@ use Rattle.ts_serve.specs.Closing.{AreNotedSessions, KeepsSessions}
 use Rattle.ts_serve.specs.Notes.{HadSessions}
 use Rattle.ts_serve.specs.Opening.{IsNewAcceptor, IsNewServer}
 use Rattle.ts_serve.specs.Knowledge.{DoneAndSpent, IsServing, KnownGroups, KnowsAll}
-use Rattle.ts_serve.proofs.Books.{books_fresh, noted_fresh, sessions_fresh}
+use Rattle.ts_serve.proofs.Books.{books_fresh}
 use Rattle.ts_serve.proofs.Knowledge.{server_fresh}
 use Rattle.ts_serve.specs.Served.{AreRetired, AreSessions, HasEndedFor, HasNotFailed, IsNotClosed, IsServed}
 use Rattle.ts_serve.specs.Served.{served_by}

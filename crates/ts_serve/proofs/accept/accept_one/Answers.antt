@@ -1,5 +1,5 @@
 -- Each place is a group of the server, and the server is served on: with the client that came, or as it was.
-use Rattle.std.proofs.Common.{◌≡◌, ◌∙◌, ◌+◌, [], Some, ap, is_some, sym, subst, arith}
+use Rattle.std.proofs.Common.{◌≡◌, ◌∙◌, [], ap, is_some, sym, subst, arith}
 use Rattle.ts_lists.proofs.Places.{place_below}
 use Rattle.ts_slot.specs.Words.{tags_of, view}
 use Rattle.ts_serve.specs.Arrivals.{given_after}

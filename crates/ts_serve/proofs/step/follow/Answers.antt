@@ -1,5 +1,5 @@
 -- What becomes of the client is said under each terms that its handler kept.
-use Rattle.std.proofs.Common.{◌∙◌, ap, inl, inr, refl, subst, sym}
+use Rattle.std.proofs.Common.{ap, inl, inr, refl, subst, sym}
 use Rattle.std.specs.Prelude.{is_some}
 use Rattle.ts_serve.specs.Notes.{AreBooks}
 use Rattle.ts_serve.specs.Leaving.{BecomesOf, LeavesWhose}

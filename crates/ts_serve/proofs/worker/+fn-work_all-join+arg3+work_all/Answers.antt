@@ -1,5 +1,5 @@
 -- The desk that was split, each part with some turns more, is joined again, and each part tells of its turns.
-use Rattle.std.proofs.Common.{◌<◌, arith}
+use Rattle.std.proofs.Common.{arith}
 use Rattle.ts_slot.specs.Words.{tags_of}
 use Rattle.ts_serve.proofs.Splits.{joined_some, none_splits, one_more_works}
 use Rattle.ts_serve.proofs.worker.+fn-work_all-join+arg3+work_all.Goals as goal

@@ -1,11 +1,11 @@
 -- The desk was split between the first thread and those that work beside it, and joined again.
-use Rattle.std.proofs.Common.{subst, rules, arith}
+use Rattle.std.proofs.Common.{subst, rules}
 use Rattle.std.specs.Prelude.{OnOk}
 use Rattle.std.proofs.lemmas.Result.{on_ok_weaker}
 use Rattle.ts_group.specs.Either.{EitherAnswers, EitherAsking, EitherCalled, EitherFits, EitherHeard}
 use Rattle.ts_group.specs.Either.{either_left}
 use Rattle.ts_slot.specs.Words.{tags_of}
-use Rattle.ts_serve.specs.Acceptor.{HasPlacesOf, IsOver, LosesNobody, Serves}
+use Rattle.ts_serve.specs.Acceptor.{IsOver, LosesNobody, Serves}
 use Rattle.ts_serve.specs.Places.{PlaceAnswers, PlaceAsking, PlaceCalled, PlaceFits, PlaceHeard, place_left}
 use Rattle.ts_serve.proofs.Splits.{goes_joined, serves_split, whole_beside}
 use Rattle.ts_serve.proofs.workers.serve_beside.Goals as goal

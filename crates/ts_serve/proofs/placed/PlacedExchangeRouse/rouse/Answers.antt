@@ -2,10 +2,8 @@
 use Rattle.std.proofs.Common.{subst}
 use Rattle.ts_group.specs.Answers.{KeepsPromises, SetsAtMost}
 use Rattle.ts_group.specs.declared.world.TheConstants.{MOST_SET}
-use Rattle.ts_layers.specs.Links.{client_link, origin_link}
 use Rattle.ts_serve.specs.Places.{FitsAtPlace}
 use Rattle.ts_txn.specs.Asking.{IsRightFor, MayAskGroup}
-use Rattle.ts_txn.specs.World.{IsTxnOf}
 use Rattle.ts_serve.proofs.AtPlaces.{FitsLayered, placed_few, placed_promises}
 use Rattle.ts_serve.proofs.placed.PlacedExchangeRouse.rouse.Goals as goal
 

@@ -6,7 +6,7 @@ use Rattle.ts_layers.specs.Links.{client_link, origin_link, origin_uploads}
 use Rattle.ts_serve.specs.Places.{FitsAtPlace}
 use Rattle.ts_txn.specs.Asking.{IsRightFor, MayAskGroup}
 use Rattle.ts_txn.specs.LoweringCourse.{transaction_left}
-use Rattle.ts_txn.specs.World.{IsSoundTxn, IsTxnOf}
+use Rattle.ts_txn.specs.World.{IsSoundTxn}
 use Rattle.ts_serve.proofs.AtPlaces.{FitsLayered, placed_none, placed_promises}
 use Rattle.ts_serve.proofs.placed.PlacedExchangeWorld.asked.Goals as goal
 

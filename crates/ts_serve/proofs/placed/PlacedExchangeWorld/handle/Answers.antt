@@ -8,7 +8,7 @@ use Rattle.ts_serve.specs.Places.{FitsAtPlace}
 use Rattle.ts_txn.specs.Asking.{IsRightFor, MayAskGroup}
 use Rattle.ts_txn.specs.Driven.{TakesEvent}
 use Rattle.ts_txn.specs.LoweringCourse.{transaction_left}
-use Rattle.ts_txn.specs.World.{IsSoundTxn, IsTxnOf}
+use Rattle.ts_txn.specs.World.{IsSoundTxn}
 use Rattle.ts_serve.proofs.AtPlaces.{FitsLayered, placed_few, placed_promises}
 use Rattle.ts_serve.proofs.placed.PlacedExchangeWorld.handle.Goals as goal
 
